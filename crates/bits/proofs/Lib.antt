@@ -1,0 +1,11 @@
+-- The laws of bits, and the proofs of the functions of `bits`.
+pub mod Bools
+pub mod Bits
+pub mod Below
+pub mod Shifts
+pub mod Constants
+pub mod Numbers
+pub mod Carries
+pub mod Counts
+pub mod Reversed
+pub mod Listed

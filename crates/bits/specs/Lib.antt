@@ -1,0 +1,4 @@
+-- The definitions of `bits`.
+pub mod Bit
+pub mod Below
+pub mod Reversed

@@ -1,0 +1,7 @@
+-- The lowest bits of a number in the other order (01, "Products": pairs meet by reversing one operand).
+--   reversed w n   the number below 2 ^ w whose bit k is bit w - 1 - k of n
+use Prim.Native.Nat.{ℕ, _-_}
+use Rattle.bits.specs.Bit.{isSet, number}
+
+unfoldable pub reversed : ℕ → ℕ → ℕ
+reversed w n = number w (λ k. isSet n (w - 1 - k))
