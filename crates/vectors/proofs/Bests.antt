@@ -1,0 +1,122 @@
+-- `best` is the best vector that covers an operation's results, it is settled bit by bit, and no other vector is. Assumes nothing.
+--   Gives f rows k b     some choice of covered operands gives b at bit k
+--   ByBits w f rows r    r told bit by bit: what a routine that computes a result has to show
+use mathlib.Core.Path.{_≡_, refl, sym, ap, _∙_}
+use mathlib.Core.Bool.{Bool, true, false, not, _&&_}
+use mathlib.Core.Logic.{inl, inr}
+use mathlib.Core.List.{List}
+use Prim.Native.Nat.{ℕ, _<_}
+use native.Mathlib.Decide.{decLt}
+use native.Mathlib.Omega.{arith}
+use lib.Dec.{T, eqb→eq}
+use Rattle.bits.specs.Bit.{bit, digit, number}
+use Rattle.bits.proofs.Bits.{bit-cases, bit-above, bit-number, number-below}
+use Rattle.bits.proofs.Bools.{eq→eqb}
+use Rattle.vectors.specs.Lists.{Each}
+use Rattle.vectors.specs.Row.{Row, WellFormed}
+use Rattle.vectors.specs.Choice.{Chosen, someChoice}
+use Rattle.vectors.specs.Best.{may, best}
+use Rattle.vectors.specs.Hull.{Shows, Hull, Results}
+use Rattle.vectors.proofs.Choices.{someChoice-intro, someChoice-elim, some-chosen}
+use Rattle.vectors.proofs.Hulls.{Some, hull-unique}
+
+pub record Gives (f : List ℕ → ℕ) (rows : List Row) (k b : ℕ) : Type 0 where
+  pub numbers : List ℕ
+  pub chosen : Chosen rows numbers
+  pub gives : bit (f numbers) k ≡ b
+
+pub record ByBits (w : ℕ) (f : List ℕ → ℕ) (rows : List Row) (r : Row) : Type 0 where
+  pub width-is : r .width ≡ w
+  pub formed : WellFormed r
+  pub unknown : (k : ℕ) → k < w → bit (r .mask) k ≡ 1 → Gives f rows k 0 × Gives f rows k 1
+  pub known : (k : ℕ) → k < w → bit (r .mask) k ≡ 0 → (ns : List ℕ) → Chosen rows ns → bit (f ns) k ≡ bit (r .value) k
+
+-- ---- bit by bit is the hull of the results
+
+shows-of-gives : (f : List ℕ → ℕ) (rows : List Row) (k b : ℕ) → Gives f rows k b → Shows (Results f rows) k b
+shows-of-gives f rows k b g = record { shown = f (g .numbers); within = record { numbers = g .numbers; chosen = g .chosen; gives = refl }; shows = g .gives }
+
+pub hull-of-bits : (w : ℕ) (f : List ℕ → ℕ) (rows : List Row) (r : Row) → ByBits w f rows r → Hull w (Results f rows) r
+hull-of-bits w f rows r B =
+    record {
+      width-is = B .width-is;
+      formed = B .formed;
+      unknown = λ k h e. let (p, q) = B .unknown k h e in (shows-of-gives f rows k 0 p, shows-of-gives f rows k 1 q);
+      known = λ k h e n s. ap (λ (x : ℕ). bit x k) (sym (s .gives)) ∙ B .known k h e (s .numbers) (s .chosen);
+    }
+
+pub some-result : (f : List ℕ → ℕ) (rows : List Row) → Each WellFormed rows → Some (Results f rows)
+some-result f rows F = let (ns, c) = some-chosen rows F in record { member = f ns; is-in = record { numbers = ns; chosen = c; gives = refl } }
+
+-- ---- `best` is settled bit by bit
+
+digit-apart : (a b : Bool) → digit (a && b) ≡ 1 → digit (b && not a) ≡ 0
+digit-apart true true e = refl
+digit-apart true false e = refl
+digit-apart false b e = absurd (omega arith)
+
+digit-both : (a b : Bool) → digit (a && b) ≡ 1 → T a × T b
+digit-both true true e = (tt, tt)
+digit-both true false e = omega arith
+digit-both false b e = absurd (omega arith)
+
+digit-one : (a b : Bool) → digit (a && b) ≡ 0 → T b → digit (b && not a) ≡ 1
+digit-one true true e t = omega arith
+digit-one true false e t = absurd t
+digit-one false true e t = refl
+digit-one false false e t = absurd t
+
+digit-zero : (a b : Bool) → digit (a && b) ≡ 0 → T a → digit (b && not a) ≡ 0
+digit-zero true true e t = refl
+digit-zero true false e t = refl
+digit-zero false b e t = absurd t
+
+module _ (w : ℕ) (f : List ℕ → ℕ) (rows : List Row) where
+  may-elim : (b k : ℕ) → T (may f rows b k) → Gives f rows k b
+  unfolding may
+  may-elim b k t =
+      let (ns, c, u) = someChoice-elim rows _ t in
+      record { numbers = ns; chosen = c; gives = eqb→eq (bit (f ns) k) b u }
+
+  may-intro : (b k : ℕ) (ns : List ℕ) → Chosen rows ns → bit (f ns) k ≡ b → T (may f rows b k)
+  unfolding may
+  may-intro b k ns c e = someChoice-intro rows _ ns c (eq→eqb e)
+
+  pub best-by-bits : ByBits w f rows (best w f rows)
+  unfolding best
+  best-by-bits =
+      record {
+        width-is = refl;
+        formed = record {
+          mask-below = number-below w _;
+          value-below = number-below w _;
+          apart = λ k e. elim (decLt k w) [
+            | yes h ↦ bit-number w _ k h ∙ digit-apart (may f rows 0 k) (may f rows 1 k) (sym (bit-number w _ k h) ∙ e)
+            | no h ↦ bit-above w _ k (number-below w _) (omega arith)
+          ];
+        };
+        unknown = λ k h e.
+            let (t, u) = digit-both (may f rows 0 k) (may f rows 1 k) (sym (bit-number w _ k h) ∙ e) in
+            (may-elim 0 k t, may-elim 1 k u);
+        known = λ k h e ns c.
+            let z = sym (bit-number w _ k h) ∙ e in
+            elim (bit-cases (f ns) k) [
+              | inl v ↦ v ∙ sym (bit-number w _ k h ∙ digit-zero (may f rows 0 k) (may f rows 1 k) z (may-intro 0 k ns c v))
+              | inr v ↦ v ∙ sym (bit-number w _ k h ∙ digit-one (may f rows 0 k) (may f rows 1 k) z (may-intro 1 k ns c v))
+            ];
+      }
+
+  pub best-formed : WellFormed (best w f rows)
+  best-formed = best-by-bits .formed
+
+  pub best-hull : Hull w (Results f rows) (best w f rows)
+  best-hull = hull-of-bits w f rows (best w f rows) best-by-bits
+
+-- ---- and it is the only such vector
+
+pub best-of-hull : (w : ℕ) (f : List ℕ → ℕ) (rows : List Row) (r : Row) → Each WellFormed rows → Hull w (Results f rows) r → r ≡ best w f rows
+best-of-hull w f rows r F H = hull-unique w (Results f rows) r (best w f rows) (some-result f rows F) H (best-hull w f rows)
+
+-- the law that each kernel's proof uses
+pub best-from-bits : {w : ℕ} {f : List ℕ → ℕ} {rows : List Row} {r : Row} → Each WellFormed rows → ByBits w f rows r → r ≡ best w f rows
+best-from-bits {w} {f} {rows} {r} F B = best-of-hull w f rows r F (hull-of-bits w f rows r B)

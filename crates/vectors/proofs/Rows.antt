@@ -1,0 +1,54 @@
+-- What a row covers: its value, its greatest number, and numbers with a given bit. Assumes nothing.
+use mathlib.Core.Path.{_≡_, refl, sym, ap, _∙_}
+use mathlib.Core.Logic.{_⊎_, inl, inr}
+use Prim.Native.Nat.{ℕ, zero, suc, _^_, _≤_, _<_, min, max}
+use native.Mathlib.Omega.{arith}
+use lib.Bits.{bitAnd, bitOr, and-lt, or-lt}
+use Rattle.bits.specs.Bit.{bit}
+use Rattle.bits.proofs.Bits.{bit-lt, bit-cases, bit-and, bit-or, bit-ext, bit-of-zero}
+use Rattle.vectors.specs.Row.{Row, WellFormed, Covers}
+
+-- the least number that a well-formed row covers is its value
+pub covers-value : (r : Row) → WellFormed r → Covers r (r .value)
+covers-value r F = record { below = F .value-below; agrees = λ k h e. refl }
+
+-- the greatest
+abbrev pub top : Row → ℕ
+top r = bitOr (r .value) (r .mask)
+
+pub covers-top : (r : Row) → WellFormed r → Covers r (top r)
+covers-top r F =
+    record {
+      below = or-lt (r .width) (r .value) (r .mask) (F .value-below) (F .mask-below);
+      agrees = λ k h e. bit-or (r .value) (r .mask) k ∙ (let z = e in omega arith);
+    }
+
+-- the bits of a covered number lie between
+pub between : (r : Row) (n : ℕ) → WellFormed r → Covers r n → (k : ℕ) → k < r .width → (bit (r .value) k ≤ bit n k) × (bit n k ≤ bit (top r) k)
+between r n F C k h =
+    let t = bit-or (r .value) (r .mask) k in
+    elim (bit-cases (r .mask) k) [
+      | inl e ↦ let z = C .agrees k h e in omega arith
+      | inr e ↦ let z = F .apart k e in let l = bit-lt n k in omega arith
+    ]
+
+-- a covered number that has b at bit k
+pub pick : (r : Row) → WellFormed r → (k b : ℕ) → b < 2 → (bit (r .mask) k ≡ 1) ⊎ (bit (r .value) k ≡ b) → (n : ℕ) × Covers r n × (bit n k ≡ b)
+pick r F k b h (inr e) = (r .value, covers-value r F, e)
+pick r F k zero h (inl e) = (r .value, covers-value r F, F .apart k e)
+pick r F k (suc zero) h (inl e) = (top r, covers-top r F, bit-or (r .value) (r .mask) k ∙ (let l = bit-lt (r .value) k in omega arith))
+pick r F k (suc (suc b)) h (inl e) = absurd (omega arith)
+
+-- ---- mask and value share no set bit: as one test on the two words, both ways
+
+pub apart-of-and : (m v k : ℕ) → bitAnd m v ≡ 0 → bit m k ≡ 1 → bit v k ≡ 0
+apart-of-and m v k e h =
+    let z : min (bit m k) (bit v k) ≡ 0 = sym (bit-and m v k) ∙ ap (λ (x : ℕ). bit x k) e ∙ bit-of-zero k in
+    let l = bit-lt v k in
+    omega arith
+
+pub and-of-apart : (w m v : ℕ) → m < 2 ^ w → v < 2 ^ w → ((k : ℕ) → bit m k ≡ 1 → bit v k ≡ 0) → bitAnd m v ≡ 0
+and-of-apart w m v hm hv h = bit-ext w (bitAnd m v) 0 (and-lt w m v hm hv) (omega arith) (λ k l. bit-and m v k ∙ at k ∙ sym (bit-of-zero k))
+  where
+    at : (k : ℕ) → min (bit m k) (bit v k) ≡ 0
+    at k = elim (bit-cases m k) [ inl e ↦ omega arith | inr e ↦ let z = h k e in omega arith ]

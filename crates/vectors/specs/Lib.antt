@@ -1,0 +1,5 @@
+pub mod Lists
+pub mod Row
+pub mod Choice
+pub mod Best
+pub mod Hull
