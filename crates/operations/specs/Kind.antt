@@ -1,0 +1,61 @@
+-- What there is to say of a kind of operation (01, "Records" and "Points and plain runs").
+--   Use             what a word of a record is to an operation: a row, a number, or nothing
+--   Kind            number, text name, use of the words a, b and p, width rule, plain number
+--   first l, second l, third l   the operands' widths or numbers, in the order of the words
+--   sameWidth .. extended        the width rules that several kinds share
+use mathlib.Core.Bool.{Bool, _&&_}
+use mathlib.Core.List.{List}
+use Prim.Native.Nat.{ℕ, _+_}
+use lib.Dec.{leb, eqb}
+use lib.ListN.{getD}
+
+pub data Use : Type 0 where
+  asRow asNumber unused : Use
+
+-- fits: of the target's width, the operand rows' widths and the parameter, whether the widths fit.
+-- plain: of these and the operands' numbers, the new number of the target in a plain run.
+pub record Kind : Type 0 where
+  pub number : ℕ
+  pub name : List ℕ
+  pub use-a : Use
+  pub use-b : Use
+  pub use-p : Use
+  pub fits : ℕ → List ℕ → ℕ → Bool
+  pub plain : ℕ → List ℕ → ℕ → List ℕ → ℕ
+
+abbrev pub first : List ℕ → ℕ
+first l = getD l 0 0
+
+abbrev pub second : List ℕ → ℕ
+second l = getD l 1 0
+
+abbrev pub third : List ℕ → ℕ
+third l = getD l 2 0
+
+-- wt = wa
+abbrev pub sameWidth : ℕ → List ℕ → ℕ → Bool
+sameWidth wt ws p = eqb wt (first ws)
+
+-- all widths equal
+abbrev pub sameWidths : ℕ → List ℕ → ℕ → Bool
+sameWidths wt ws p = eqb wt (first ws) && eqb wt (second ws)
+
+-- wt = wa = wb, and the condition row has width 1
+abbrev pub chosenWidths : ℕ → List ℕ → ℕ → Bool
+chosenWidths wt ws p = sameWidths wt ws p && eqb (third ws) 1
+
+-- wa = wb, wt = 1
+abbrev pub comparedWidths : ℕ → List ℕ → ℕ → Bool
+comparedWidths wt ws p = eqb (first ws) (second ws) && eqb wt 1
+
+-- wt = wa + wb
+abbrev pub joinedWidths : ℕ → List ℕ → ℕ → Bool
+joinedWidths wt ws p = eqb wt (first ws + second ws)
+
+-- p + wt ≤ wa
+abbrev pub takenWidth : ℕ → List ℕ → ℕ → Bool
+takenWidth wt ws p = leb (p + wt) (first ws)
+
+-- wt ≥ wa
+abbrev pub extendedWidth : ℕ → List ℕ → ℕ → Bool
+extendedWidth wt ws p = leb (first ws) wt

@@ -1,0 +1,53 @@
+-- All kinds, and the kind that has a number (01, "Records").
+--   kinds       the 21 kinds, numbers rising
+--   isKind n    some kind has the number n
+--   kindOf n    that kind; for a number that no kind has, opNone, which refusal 6 keeps from acting
+use mathlib.Core.Bool.{Bool, true, false, cond, _||_}
+use mathlib.Core.List.{List, [], _∷_}
+use Prim.Native.Nat.{ℕ}
+use lib.Dec.{eqb}
+use Rattle.operations.specs.Kind.{unused, Kind}
+use Rattle.operations.specs.Moves.{opCopy, opNot, opAnd, opOr, opXor, opShl, opLshr, opAshr, opRotl, opExtract, opConcat, opZext, opSext}
+use Rattle.operations.specs.Arithmetic.{opAdd, opSub, opNeg, opMul, opEq, opUlt, opSlt, opIte}
+
+unfoldable pub kinds : List Kind
+kinds =
+    opCopy
+    ∷ opNot
+    ∷ opAnd
+    ∷ opOr
+    ∷ opXor
+    ∷ opShl
+    ∷ opLshr
+    ∷ opAshr
+    ∷ opRotl
+    ∷ opExtract
+    ∷ opConcat
+    ∷ opZext
+    ∷ opSext
+    ∷ opAdd
+    ∷ opSub
+    ∷ opNeg
+    ∷ opMul
+    ∷ opEq
+    ∷ opUlt
+    ∷ opSlt
+    ∷ opIte
+    ∷ []
+
+abbrev pub opNone : Kind
+opNone = record { number = 0; name = []; use-a = unused; use-b = unused; use-p = unused; fits = λ wt ws p. false; plain = λ wt ws p ns. 0 }
+
+abbrev pub numbered : ℕ → List Kind → Bool
+numbered n [] = false
+numbered n (k ∷ ks) = eqb (k .number) n || numbered n ks
+
+abbrev pub find : ℕ → List Kind → Kind
+find n [] = opNone
+find n (k ∷ ks) = cond (eqb (k .number) n) k (find n ks)
+
+unfoldable pub isKind : ℕ → Bool
+isKind n = numbered n kinds
+
+unfoldable pub kindOf : ℕ → Kind
+kindOf n = find n kinds

@@ -1,0 +1,11 @@
+pub mod Limits
+pub mod Kind
+pub mod Moves
+pub mod Arithmetic
+pub mod Kinds
+pub mod Record
+pub mod Result
+pub mod Bitvector
+pub mod SmtLib
+pub mod Terms
+pub mod Examples

@@ -1,0 +1,177 @@
+-- Kinds 0 to 12: logic and movement (01, "Records" and "Points and plain runs"). Each kind is described here and nowhere else.
+--   opCopy opNot opAnd opOr opXor opShl opLshr opAshr opRotl opExtract opConcat opZext opSext
+-- In a plain number, w is the width of the first operand, first ws, and a, b are the operands' numbers.
+use mathlib.Core.List.{[], _∷_}
+use mathlib.Core.Bool.{_&&_}
+use Prim.Native.Nat.{ℕ, _+_, _-_, _*_, _/_, _%_, _^_, min}
+use lib.Dec.{eqb}
+use lib.Bits.{bitAnd, bitOr, bitXor}
+use Rattle.bits.specs.Bit.{isSet, number}
+use Rattle.bits.specs.Below.{someBelow}
+use Rattle.operations.specs.Kind.{asRow, asNumber, unused, Kind, first, second, sameWidth, sameWidths, takenWidth, joinedWidths, extendedWidth}
+
+-- copy, zext: a
+unfoldable pub opCopy : Kind
+opCopy =
+    record {
+      number = 0;
+      name = 99 ∷ 111 ∷ 112 ∷ 121 ∷ [];
+      use-a = asRow;
+      use-b = unused;
+      use-p = unused;
+      fits = sameWidth;
+      plain = λ wt ws p ns. first ns;
+    }
+
+-- not: 2^w - 1 - a
+unfoldable pub opNot : Kind
+opNot =
+    record {
+      number = 1;
+      name = 110 ∷ 111 ∷ 116 ∷ [];
+      use-a = asRow;
+      use-b = unused;
+      use-p = unused;
+      fits = sameWidth;
+      plain = λ wt ws p ns. 2 ^ first ws - 1 - first ns;
+    }
+
+-- and, or, xor: bit by bit
+unfoldable pub opAnd : Kind
+opAnd =
+    record {
+      number = 2;
+      name = 97 ∷ 110 ∷ 100 ∷ [];
+      use-a = asRow;
+      use-b = asRow;
+      use-p = unused;
+      fits = sameWidths;
+      plain = λ wt ws p ns. bitAnd (first ns) (second ns);
+    }
+
+unfoldable pub opOr : Kind
+opOr =
+    record {
+      number = 3;
+      name = 111 ∷ 114 ∷ [];
+      use-a = asRow;
+      use-b = asRow;
+      use-p = unused;
+      fits = sameWidths;
+      plain = λ wt ws p ns. bitOr (first ns) (second ns);
+    }
+
+unfoldable pub opXor : Kind
+opXor =
+    record {
+      number = 4;
+      name = 120 ∷ 111 ∷ 114 ∷ [];
+      use-a = asRow;
+      use-b = asRow;
+      use-p = unused;
+      fits = sameWidths;
+      plain = λ wt ws p ns. bitXor (first ns) (second ns);
+    }
+
+-- shl: a · 2^p modulo 2^w. A shift by w or more gives zeros.
+unfoldable pub opShl : Kind
+opShl =
+    record {
+      number = 5;
+      name = 115 ∷ 104 ∷ 108 ∷ [];
+      use-a = asRow;
+      use-b = unused;
+      use-p = asNumber;
+      fits = sameWidth;
+      plain = λ wt ws p ns. first ns * 2 ^ p % 2 ^ first ws;
+    }
+
+-- lshr: floor(a / 2^p)
+unfoldable pub opLshr : Kind
+opLshr =
+    record {
+      number = 6;
+      name = 108 ∷ 115 ∷ 104 ∷ 114 ∷ [];
+      use-a = asRow;
+      use-b = unused;
+      use-p = asNumber;
+      fits = sameWidth;
+      plain = λ wt ws p ns. first ns / 2 ^ p;
+    }
+
+-- ashr: bit k is bit min(k + p, w - 1) of a
+unfoldable pub opAshr : Kind
+opAshr =
+    record {
+      number = 7;
+      name = 97 ∷ 115 ∷ 104 ∷ 114 ∷ [];
+      use-a = asRow;
+      use-b = unused;
+      use-p = asNumber;
+      fits = sameWidth;
+      plain = λ wt ws p ns. number (first ws) (λ k. isSet (first ns) (min (k + p) (first ws - 1)));
+    }
+
+-- rotl: bit k of a goes to bit (k + p) modulo w, so bit j is 1 exactly where some set bit k goes to j
+unfoldable pub opRotl : Kind
+opRotl =
+    record {
+      number = 8;
+      name = 114 ∷ 111 ∷ 116 ∷ 108 ∷ [];
+      use-a = asRow;
+      use-b = unused;
+      use-p = asNumber;
+      fits = sameWidth;
+      plain = λ wt ws p ns. number (first ws) (λ j. someBelow (first ws) (λ k. eqb ((k + p) % first ws) j && isSet (first ns) k));
+    }
+
+-- extract: floor(a / 2^p) modulo 2^wt; p is the lowest bit taken
+unfoldable pub opExtract : Kind
+opExtract =
+    record {
+      number = 9;
+      name = 101 ∷ 120 ∷ 116 ∷ 114 ∷ 97 ∷ 99 ∷ 116 ∷ [];
+      use-a = asRow;
+      use-b = unused;
+      use-p = asNumber;
+      fits = takenWidth;
+      plain = λ wt ws p ns. first ns / 2 ^ p % 2 ^ wt;
+    }
+
+-- concat: a · 2^wb + b
+unfoldable pub opConcat : Kind
+opConcat =
+    record {
+      number = 10;
+      name = 99 ∷ 111 ∷ 110 ∷ 99 ∷ 97 ∷ 116 ∷ [];
+      use-a = asRow;
+      use-b = asRow;
+      use-p = unused;
+      fits = joinedWidths;
+      plain = λ wt ws p ns. first ns * 2 ^ second ws + second ns;
+    }
+
+unfoldable pub opZext : Kind
+opZext =
+    record {
+      number = 11;
+      name = 122 ∷ 101 ∷ 120 ∷ 116 ∷ [];
+      use-a = asRow;
+      use-b = unused;
+      use-p = unused;
+      fits = extendedWidth;
+      plain = λ wt ws p ns. first ns;
+    }
+
+-- sext: bit min(k, w - 1) of a
+unfoldable pub opSext : Kind
+opSext =
+    record {
+      number = 12;
+      name = 115 ∷ 101 ∷ 120 ∷ 116 ∷ [];
+      use-a = asRow;
+      use-b = unused;
+      use-p = unused;
+      fits = extendedWidth;
+      plain = λ wt ws p ns. number wt (λ k. isSet (first ns) (min k (first ws - 1)));
+    }

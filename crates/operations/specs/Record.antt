@@ -1,0 +1,118 @@
+-- A record's words, its checks 6 to 10 and its effect, all from the kind's description (01, "Records" and "Who can cause a refusal").
+--   kindWord .. parameterWord   the five words of a record: kind, target row t, operand rows a and b, parameter p
+--   kindIn words     the record's kind
+--   rowsNamed words  the operand rows that the words a, b and p name, in that order
+--   widthAt widths i the width of row i
+--   Fault            a condition, and the number of the refusal that it causes
+--   recordFaults     checks 6 to 9, in order;  lockFault   check 10
+--   Effect           a target row, operand rows, and the target's new number as a function of the operands' numbers
+--   effectOf         a record's effect;  effectsOf   the list of its effects, that one alone
+use mathlib.Core.Bool.{Bool, true, false, not}
+use mathlib.Core.List.{List, [], _∷_, map}
+use Prim.Native.Nat.{ℕ}
+use lib.Dec.{leb, ltb, eqb}
+use lib.ListN.{length, getD}
+use Rattle.operations.specs.Limits.{parameterLimit}
+use Rattle.operations.specs.Kind.{Use, asRow, asNumber, unused, Kind}
+use Rattle.operations.specs.Kinds.{isKind, kindOf}
+
+abbrev pub kindWord : List ℕ → ℕ
+kindWord words = getD words 0 0
+
+abbrev pub targetWord : List ℕ → ℕ
+targetWord words = getD words 1 0
+
+abbrev pub firstWord : List ℕ → ℕ
+firstWord words = getD words 2 0
+
+abbrev pub secondWord : List ℕ → ℕ
+secondWord words = getD words 3 0
+
+abbrev pub parameterWord : List ℕ → ℕ
+parameterWord words = getD words 4 0
+
+abbrev pub kindIn : List ℕ → Kind
+kindIn words = kindOf (kindWord words)
+
+abbrev pub widthAt : List ℕ → ℕ → ℕ
+widthAt widths i = getD widths i 0
+
+-- ---- the operand rows
+
+abbrev pub withRow : Use → ℕ → List ℕ → List ℕ
+withRow asRow word rows = word ∷ rows
+withRow asNumber word rows = rows
+withRow unused word rows = rows
+
+abbrev pub operandWords : Kind → ℕ → ℕ → ℕ → List ℕ
+operandWords k a b p = withRow (k .use-a) a (withRow (k .use-b) b (withRow (k .use-p) p []))
+
+unfoldable pub rowsNamed : List ℕ → List ℕ
+rowsNamed words = operandWords (kindIn words) (firstWord words) (secondWord words) (parameterWord words)
+
+-- ---- the checks
+
+pub record Fault : Type 0 where
+  pub fails : Bool
+  pub number : ℕ
+
+abbrev pub fault : Bool → ℕ → Fault
+fault b n = record { fails = b; number = n }
+
+-- 6: kind unknown
+abbrev pub kindUnknown : List ℕ → Bool
+kindUnknown words = not (isKind (kindWord words))
+
+-- 7: a used row word outside the table, which has n rows
+abbrev pub outside : ℕ → Use → ℕ → Bool
+outside n asRow word = leb n word
+outside n asNumber word = false
+outside n unused word = false
+
+-- 8: an unused word not 0, or a shift, rotation or extract parameter over 31
+abbrev pub misused : Use → ℕ → Bool
+misused asRow word = false
+misused asNumber word = ltb parameterLimit word
+misused unused word = not (eqb word 0)
+
+-- 9: widths don't fit
+abbrev pub widthsFit : List ℕ → List ℕ → Bool
+widthsFit widths words = kindIn words .fits (widthAt widths (targetWord words)) (map (widthAt widths) (rowsNamed words)) (parameterWord words)
+
+-- 10: target row locked
+abbrev pub targetLocked : List ℕ → List ℕ → Bool
+targetLocked locks words = eqb (getD locks (targetWord words) 0) 1
+
+unfoldable pub recordFaults : List ℕ → List ℕ → List Fault
+recordFaults widths words =
+    fault (kindUnknown words) 6
+    ∷ fault (outside (length widths) asRow (targetWord words)) 7
+    ∷ fault (outside (length widths) (kindIn words .use-a) (firstWord words)) 7
+    ∷ fault (outside (length widths) (kindIn words .use-b) (secondWord words)) 7
+    ∷ fault (outside (length widths) (kindIn words .use-p) (parameterWord words)) 7
+    ∷ fault (misused (kindIn words .use-a) (firstWord words)) 8
+    ∷ fault (misused (kindIn words .use-b) (secondWord words)) 8
+    ∷ fault (misused (kindIn words .use-p) (parameterWord words)) 8
+    ∷ fault (not (widthsFit widths words)) 9
+    ∷ []
+
+unfoldable pub lockFault : List ℕ → List ℕ → List Fault
+lockFault locks words = fault (targetLocked locks words) 10 ∷ []
+
+-- ---- the effect
+
+pub record Effect : Type 0 where
+  pub target : ℕ
+  pub operands : List ℕ
+  pub value : List ℕ → ℕ
+
+unfoldable pub effectOf : List ℕ → List ℕ → Effect
+effectOf widths words =
+    record {
+      target = targetWord words;
+      operands = rowsNamed words;
+      value = kindIn words .plain (widthAt widths (targetWord words)) (map (widthAt widths) (rowsNamed words)) (parameterWord words);
+    }
+
+unfoldable pub effectsOf : List ℕ → List ℕ → List Effect
+effectsOf widths words = effectOf widths words ∷ []

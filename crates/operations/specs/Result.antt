@@ -1,0 +1,36 @@
+-- The abstract result of a kind over operand rows, and what the checks give a kernel (01, "Abstract result" and "Records").
+--   Below ws ns          each number is below 2 to the power of its width
+--   resultOf k wt p rows the best vector for the kind k at target width wt, with parameter p, over the operand rows
+--   arity k              how many operand rows the kind k has
+--   Ready k wt p rows    the operands passed the checks: their count, well-formed vectors, widths that fit, parameter in range
+use mathlib.Core.Path.{_≡_}
+use mathlib.Core.Bool.{not}
+use mathlib.Core.List.{List, map}
+use Prim.Native.Nat.{ℕ, _^_, _≤_, _<_}
+use lib.Dec.{T}
+use lib.ListN.{length}
+use Rattle.vectors.specs.Lists.{Each, Along}
+use Rattle.vectors.specs.Row.{Row, WellFormed}
+use Rattle.vectors.specs.Best.{best}
+use Rattle.operations.specs.Kind.{Kind}
+use Rattle.operations.specs.Record.{operandWords, misused}
+
+abbrev pub Below : List ℕ → List ℕ → Type 0
+Below ws ns = Along (λ w n. n < 2 ^ w) ws ns
+
+abbrev pub widthsOf : List Row → List ℕ
+widthsOf rows = map (λ r. r .width) rows
+
+unfoldable pub resultOf : Kind → ℕ → ℕ → List Row → Row
+resultOf k wt p rows = best wt (k .plain wt (widthsOf rows) p) rows
+
+abbrev pub arity : Kind → ℕ
+arity k = length (operandWords k 0 0 0)
+
+pub record Ready (k : Kind) (wt p : ℕ) (rows : List Row) : Type 0 where
+  pub count : length rows ≡ arity k
+  pub formed : Each WellFormed rows
+  pub wide : 1 ≤ wt
+  pub widths : Each (λ r. 1 ≤ r .width) rows
+  pub fits : T (k .fits wt (widthsOf rows) p)
+  pub parameter : T (not (misused (k .use-p) p))
