@@ -1,0 +1,112 @@
+-- Demand 3, for every table and every stretch that run accepts, with all kinds. Assumes nothing.
+use mathlib.Core.Path.{_≡_, refl, sym, ap, _∙_, subst, subst₂}
+use mathlib.Core.List.{List, [], _∷_}
+use Prim.Native.Nat.{ℕ, suc, _+_, _-_, _≤_, _<_}
+use native.Mathlib.Nat.{add-sub-of-le, sub-self}
+use native.Mathlib.Omega.{arith}
+use lib.ListN.{length}
+use Rattle.operations.specs.Record.{Effect, effectOf, effectsOf, targetWord}
+use Rattle.tables.specs.Check.{Answer, done, refused, verdict}
+use Rattle.tables.specs.Table.{State, rowAt, Table, startOf, withRows, recordCount, recordOf}
+use Rattle.tables.specs.Checks.{runChecks}
+use Rattle.tables.specs.Step.{after, plainAfter}
+use Rattle.tables.specs.Run.{effectsAt, programOf, Ran, ranAs, runOf, pointRows, plainRun}
+use Rattle.tables.specs.Accepted.{TablePassed, Accepted}
+use Rattle.tables.specs.Demand.{StateFits, CoversState, InsideState, After, Demand3}
+use Rattle.tables.proofs.Fits.{FitProgram, effects-fit}
+use Rattle.tables.proofs.Points.{Stretch, stretch}
+use Rattle.tables.proofs.Accepts.{accepted-of-answer, answer-of-accepted}
+
+-- ---- run and acceptance
+
+pub ran-done : (t : Table) (first last : ℕ) → Accepted t first last
+    → runOf t first last ≡ record { answer = done last; rows = after (programOf t) first (last - first) (startOf t) }
+unfolding runOf
+ran-done t first last A = ap (λ a. ranAs a t first) (answer-of-accepted t first last last A)
+
+-- an answer that is a result shows acceptance
+pub accepted-of-run : (t : Table) (first last n : ℕ) → runOf t first last .answer ≡ done n → Accepted t first last
+unfolding runOf
+accepted-of-run t first last n e = accepted-of-answer t first last last n (same (verdict (runChecks t first last) last) ∙ e)
+  where
+    same : (a : Answer ℕ) → a ≡ ranAs a t first .answer
+    same (done m) = refl
+    same (refused m i) = refl
+
+-- ---- what an accepted table gives
+
+pub start-fits : (t : Table) → TablePassed t → StateFits (t .widths) (startOf t)
+start-fits t A = record { masks-length = A .masks-length; values-length = A .values-length; formed = λ i h. A .row-passed i h .formed }
+
+pub program-fits : (t : Table) → TablePassed t → FitProgram (programOf t)
+program-fits t A i h = effects-fit (t .widths) (recordOf t i) (A .record-passed i h)
+
+-- the same table with other well-formed rows, and a stretch that ends earlier, is accepted too
+pub accepted-with : (t : Table) (first last : ℕ) → Accepted t first last → (rows : State) → StateFits (t .widths) rows → (s : ℕ) → first ≤ s → s ≤ last → Accepted (withRows t rows) first s
+accepted-with t first last A rows S s h l =
+    record {
+      table = record {
+        rows-least = A .table .rows-least;
+        rows-most = A .table .rows-most;
+        locks-length = A .table .locks-length;
+        masks-length = S .masks-length;
+        values-length = S .values-length;
+        words-whole = A .table .words-whole;
+        records-most = A .table .records-most;
+        row-passed = λ i k. let R = A .table .row-passed i k in record { width-least = R .width-least; width-most = R .width-most; lock-most = R .lock-most; formed = S .formed i k };
+        record-passed = A .table .record-passed;
+      };
+      ordered = h;
+      within = let w = A .within in omega arith;
+      open-target = A .open-target;
+    }
+
+-- ---- the theorem
+
+module _ (t : Table) (first last : ℕ) (A : Accepted t first last) where
+  fits : StateFits (t .widths) (startOf t)
+  fits = start-fits t (A .table)
+
+  whole : Stretch (programOf t) first (last - first) (startOf t)
+  whole = stretch (programOf t) (program-fits t (A .table)) first (last - first) (let o = A .ordered in let w = A .within in omega arith) (startOf t) fits
+
+  answers : (rows : State) → StateFits (t .widths) rows → (s : ℕ) → first ≤ s → s ≤ last → runOf (withRows t rows) first s .answer ≡ done s
+  answers rows S s h l = ap (λ (r : Ran). r .answer) (ran-done (withRows t rows) first s (accepted-with t first last A rows S s h l))
+
+  -- the rows at a point, of the run from the start rows or from others, are those after that many records
+  pub at-point : (rows : State) → StateFits (t .widths) rows → (s : ℕ) → first ≤ s → s ≤ last → pointRows (withRows t rows) first s ≡ after (programOf t) first (s - first) rows
+  at-point rows S s h l = ap (λ (r : Ran). r .rows) (ran-done (withRows t rows) first s (accepted-with t first last A rows S s h l))
+
+  one-effect : (s : ℕ) → (e : Effect) × (effectsAt t s ≡ e ∷ []) × (e .target ≡ targetWord (recordOf t s))
+  unfolding effectsOf effectOf
+  one-effect s = (effectOf (t .widths) (recordOf t s), refl, refl)
+
+  best-results : (s : ℕ) → first ≤ s → s < last → After (t .widths) (effectsAt t s) (pointRows t first s) (pointRows t first (suc s))
+  best-results s h l =
+      let next : suc s - first ≡ suc (s - first) = omega arith in
+      let before = at-point (startOf t) fits s h (omega arith) in
+      let behind = at-point (startOf t) fits (suc s) (omega arith) l ∙ ap (λ (n : ℕ). after (programOf t) first n (startOf t)) next in
+      subst₂ (After (t .widths) (effectsAt t s)) (sym before) (sym behind)
+      (subst (λ (i : ℕ). After (t .widths) (effectsAt t i) (after (programOf t) first (s - first) (startOf t)) (after (programOf t) first (suc (s - first)) (startOf t)))
+      (add-sub-of-le h) (whole .best-results (s - first) (omega arith)))
+
+  pub demand3 : Demand3 t first last (pointRows t first last)
+  unfolding after
+  demand3 =
+      record {
+        end = refl;
+        points = answers (startOf t) fits;
+        start = at-point (startOf t) fits first (omega arith) (A .ordered) ∙ ap (λ (n : ℕ). after (programOf t) first n (startOf t)) (sub-self first);
+        one-target = λ s h l. one-effect s;
+        best-results = best-results;
+        plain-runs = λ ns C s h l.
+            subst (λ (r : State). CoversState (t .widths) r (plainRun t first s ns)) (sym (at-point (startOf t) fits s h l)) (whole .plain-runs ns C (s - first) (omega arith));
+        inner-runs = λ inner S I s h l. (
+          answers inner S s h l,
+          subst₂ (InsideState (t .widths)) (sym (at-point inner S s h l)) (sym (at-point (startOf t) fits s h l)) (whole .inner-runs inner S I (s - first) (omega arith)),
+        );
+      }
+
+-- nothing is assumed but that run accepts
+pub demand3-of-run : (t : Table) (first last : ℕ) → runOf t first last .answer ≡ done last → Demand3 t first last (runOf t first last .rows)
+demand3-of-run t first last e = demand3 t first last (accepted-of-run t first last last e)

@@ -1,0 +1,9 @@
+pub mod Fits
+pub mod Put
+pub mod PutAll
+pub mod Steps
+pub mod Points
+pub mod Verdicts
+pub mod RowChecks
+pub mod Accepts
+pub mod Demand3

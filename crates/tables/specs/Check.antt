@@ -1,0 +1,37 @@
+-- Answers and refusals (01, "Calls" and "Who can cause a refusal").
+--   Answer A        the result, or a refusal holding its number and its place
+--   Check           a condition, and the number and place of the refusal that it causes
+--   verdict cs a    the first check whose condition holds refuses; where none holds the answer is a
+--   placed i fs     a record's or a row's faults as checks with the place i
+--   rising f i n    the lists f i, f (i + 1), .. , of which there are n, one after another
+--   Passed cs       no condition of cs holds
+use mathlib.Core.Bool.{Bool, not, cond}
+use mathlib.Core.List.{List, [], _∷_, _++_, map}
+use Prim.Native.Nat.{ℕ, zero, suc}
+use lib.Dec.{T}
+use Rattle.vectors.specs.Lists.{Each}
+use Rattle.operations.specs.Record.{Fault}
+
+pub data Answer (A : Type 0) : Type 0 where
+  done : A → Answer A
+  refused : ℕ → ℕ → Answer A
+
+pub record Check : Type 0 where
+  pub fails : Bool
+  pub number : ℕ
+  pub place : ℕ
+
+-- "A refusal comes whenever its stated condition is the first to hold, and never otherwise."
+unfoldable pub verdict : {A : Type 0} → List Check → A → Answer A
+verdict [] a = done a
+verdict (c ∷ cs) a = cond (c .fails) (refused (c .number) (c .place)) (verdict cs a)
+
+abbrev pub placed : ℕ → List Fault → List Check
+placed i fs = map (λ f. record { fails = f .fails; number = f .number; place = i }) fs
+
+unfoldable pub rising : (ℕ → List Check) → ℕ → ℕ → List Check
+rising f i zero = []
+rising f i (suc n) = f i ++ rising f (suc i) n
+
+abbrev pub Passed : List Check → Type 0
+Passed cs = Each (λ c. T (not (c .fails))) cs

@@ -1,0 +1,122 @@
+-- The checks of the calls on a table (01, "Who can cause a refusal"), each condition by name, each call's list in 01's order:
+-- "1, 2, 3; rows rising, 4 before 5; records rising, 6 to 10 in number order". Checks of a record: crate operations, Record.
+--   noRows .. lastPastEnd      the conditions of 1, 2 and 3;  widthZero .. planesMeet   the conditions of 4 and 5
+--   rowShapeChecks t           1 and 2;      wordChecks t      3 without a stretch;   stretchChecks t first last   3 for a stretch
+--   rowFaults t i              4 and 5 of row i;               rowChecks t   of all rows
+--   recordChecks t             6 to 9 of all records;          openChecks t  6 to 10 of all records
+--   runChecks, sizeChecks, writeChecks, countChecks   what run, size, write and count refuse, in order
+use mathlib.Core.Bool.{Bool, not}
+use mathlib.Core.List.{List, [], _∷_, _++_}
+use Prim.Native.Nat.{ℕ, _+_, _*_, _%_, _^_}
+use lib.Dec.{leb, ltb, eqb}
+use lib.ListN.{length, getD}
+use lib.Bits.{bitAnd}
+use Rattle.operations.specs.Limits.{recordWords}
+use Rattle.operations.specs.Record.{Fault, fault, widthAt, recordFaults, lockFault}
+use Rattle.tables.specs.Limits.{widthLimit, rowLimit, recordLimit, rowBytes, recordBytes}
+use Rattle.tables.specs.Check.{Check, placed, rising}
+use Rattle.tables.specs.Table.{Table, recordCount, recordOf}
+
+-- ---- 1: the width slice has no row, or over 256
+
+abbrev pub noRows : Table → Bool
+noRows t = eqb (length (t .widths)) 0
+
+abbrev pub tooManyRows : Table → Bool
+tooManyRows t = ltb rowLimit (length (t .widths))
+
+-- ---- 2: the four row slices differ in length
+
+abbrev pub locksDiffer : Table → Bool
+locksDiffer t = not (eqb (length (t .locks)) (length (t .widths)))
+
+abbrev pub masksDiffer : Table → Bool
+masksDiffer t = not (eqb (length (t .masks)) (length (t .widths)))
+
+abbrev pub valuesDiffer : Table → Bool
+valuesDiffer t = not (eqb (length (t .values)) (length (t .widths)))
+
+-- ---- 3: record words not a multiple of five, over 1,024 records, first after last, or last past the end
+
+abbrev pub wordsLeftOver : Table → Bool
+wordsLeftOver t = not (eqb (length (t .words) % recordWords) 0)
+
+abbrev pub tooManyRecords : Table → Bool
+tooManyRecords t = ltb recordLimit (recordCount t)
+
+abbrev pub firstAfterLast : ℕ → ℕ → Bool
+firstAfterLast first last = ltb last first
+
+abbrev pub lastPastEnd : Table → ℕ → Bool
+lastPastEnd t last = ltb (recordCount t) last
+
+-- ---- 4: width outside 1 to 32, or lock over 1
+
+abbrev pub widthZero : Table → ℕ → Bool
+widthZero t i = eqb (widthAt (t .widths) i) 0
+
+abbrev pub widthOver : Table → ℕ → Bool
+widthOver t i = ltb widthLimit (widthAt (t .widths) i)
+
+abbrev pub lockOver : Table → ℕ → Bool
+lockOver t i = ltb 1 (getD (t .locks) i 0)
+
+-- ---- 5: vector not well formed
+
+abbrev pub maskOver : Table → ℕ → Bool
+maskOver t i = leb (2 ^ widthAt (t .widths) i) (getD (t .masks) i 0)
+
+abbrev pub valueOver : Table → ℕ → Bool
+valueOver t i = leb (2 ^ widthAt (t .widths) i) (getD (t .values) i 0)
+
+abbrev pub planesMeet : Table → ℕ → Bool
+planesMeet t i = not (eqb (bitAnd (getD (t .masks) i 0) (getD (t .values) i 0)) 0)
+
+-- ---- 7 of count: the row named outside the table;  14: output buffer shorter than size
+
+abbrev pub rowOutside : Table → ℕ → Bool
+rowOutside t i = leb (length (t .widths)) i
+
+abbrev pub sizeBound : Table → ℕ
+sizeBound t = rowBytes * length (t .widths) + recordBytes * recordCount t
+
+abbrev pub bufferShort : Table → ℕ → Bool
+bufferShort t room = ltb room (sizeBound t)
+
+-- ---- the lists
+
+abbrev pub rowShapeFaults : Table → List Fault
+rowShapeFaults t = fault (noRows t) 1 ∷ fault (tooManyRows t) 1 ∷ fault (locksDiffer t) 2 ∷ fault (masksDiffer t) 2 ∷ fault (valuesDiffer t) 2 ∷ []
+
+abbrev pub wordFaults : Table → List Fault
+wordFaults t = fault (wordsLeftOver t) 3 ∷ fault (tooManyRecords t) 3 ∷ []
+
+abbrev pub stretchFaults : Table → ℕ → ℕ → List Fault
+stretchFaults t first last = fault (firstAfterLast first last) 3 ∷ fault (lastPastEnd t last) 3 ∷ []
+
+abbrev pub rowFaults : Table → ℕ → List Fault
+rowFaults t i =
+    fault (widthZero t i) 4 ∷ fault (widthOver t i) 4 ∷ fault (lockOver t i) 4
+    ∷ fault (maskOver t i) 5 ∷ fault (valueOver t i) 5 ∷ fault (planesMeet t i) 5 ∷ []
+
+-- Place is a row for 4 and 5, a record for 6 to 10, the row named for count's 7, else 0.
+abbrev pub rowChecks : Table → List Check
+rowChecks t = rising (λ i. placed i (rowFaults t i)) 0 (length (t .widths))
+
+abbrev pub recordChecks : Table → List Check
+recordChecks t = rising (λ i. placed i (recordFaults (t .widths) (recordOf t i))) 0 (recordCount t)
+
+abbrev pub openChecks : Table → List Check
+openChecks t = rising (λ i. placed i (recordFaults (t .widths) (recordOf t i)) ++ placed i (lockFault (t .locks) (recordOf t i))) 0 (recordCount t)
+
+unfoldable pub runChecks : Table → ℕ → ℕ → List Check
+runChecks t first last = placed 0 (rowShapeFaults t) ++ (placed 0 (wordFaults t) ++ (placed 0 (stretchFaults t first last) ++ (rowChecks t ++ openChecks t)))
+
+unfoldable pub sizeChecks : Table → List Check
+sizeChecks t = placed 0 (rowShapeFaults t) ++ (placed 0 (wordFaults t) ++ (rowChecks t ++ recordChecks t))
+
+unfoldable pub writeChecks : Table → ℕ → List Check
+writeChecks t room = sizeChecks t ++ placed 0 (fault (bufferShort t room) 14 ∷ [])
+
+unfoldable pub countChecks : Table → ℕ → List Check
+countChecks t i = placed 0 (rowShapeFaults t) ++ (rowChecks t ++ placed i (fault (rowOutside t i) 7 ∷ []))

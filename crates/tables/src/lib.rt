@@ -1,0 +1,1 @@
+// Tables: the checks, run and count.
