@@ -1,2 +1,13 @@
 pub mod Starred
 pub mod Bounded
+pub mod Lookup
+pub mod SmtBits
+pub mod SmtNat
+pub mod SmtLogic
+pub mod SmtSums
+pub mod SmtMoves
+pub mod SmtShifts
+pub mod SmtRotate
+pub mod SmtCompare
+pub mod SmtOperands
+pub mod SmtTerms

@@ -4,11 +4,11 @@
 --   rowsNamed words  the operand rows that the words a, b and p name, in that order
 --   widthAt widths i the width of row i
 --   Fault            a condition, and the number of the refusal that it causes
---   recordFaults     checks 6 to 9, in order;  lockFault   check 10
+--   namedFaults n    checks 6 to 8 against n rows;  recordFaults   checks 6 to 9, in order;  lockFault   check 10
 --   Effect           a target row, operand rows, and the target's new number as a function of the operands' numbers
 --   effectOf         a record's effect;  effectsOf   the list of its effects, that one alone
 use mathlib.Core.Bool.{Bool, true, false, not}
-use mathlib.Core.List.{List, [], _∷_, map}
+use mathlib.Core.List.{List, [], _∷_, _++_, map}
 use Prim.Native.Nat.{ℕ}
 use lib.Dec.{leb, ltb, eqb}
 use lib.ListN.{length, getD}
@@ -83,18 +83,20 @@ widthsFit widths words = kindIn words .fits (widthAt widths (targetWord words)) 
 abbrev pub targetLocked : List ℕ → List ℕ → Bool
 targetLocked locks words = eqb (getD locks (targetWord words) 0) 1
 
-unfoldable pub recordFaults : List ℕ → List ℕ → List Fault
-recordFaults widths words =
+abbrev pub namedFaults : ℕ → List ℕ → List Fault
+namedFaults n words =
     fault (kindUnknown words) 6
-    ∷ fault (outside (length widths) asRow (targetWord words)) 7
-    ∷ fault (outside (length widths) (kindIn words .use-a) (firstWord words)) 7
-    ∷ fault (outside (length widths) (kindIn words .use-b) (secondWord words)) 7
-    ∷ fault (outside (length widths) (kindIn words .use-p) (parameterWord words)) 7
+    ∷ fault (outside n asRow (targetWord words)) 7
+    ∷ fault (outside n (kindIn words .use-a) (firstWord words)) 7
+    ∷ fault (outside n (kindIn words .use-b) (secondWord words)) 7
+    ∷ fault (outside n (kindIn words .use-p) (parameterWord words)) 7
     ∷ fault (misused (kindIn words .use-a) (firstWord words)) 8
     ∷ fault (misused (kindIn words .use-b) (secondWord words)) 8
     ∷ fault (misused (kindIn words .use-p) (parameterWord words)) 8
-    ∷ fault (not (widthsFit widths words)) 9
     ∷ []
+
+unfoldable pub recordFaults : List ℕ → List ℕ → List Fault
+recordFaults widths words = namedFaults (length widths) words ++ fault (not (widthsFit widths words)) 9 ∷ []
 
 unfoldable pub lockFault : List ℕ → List ℕ → List Fault
 lockFault locks words = fault (targetLocked locks words) 10 ∷ []
