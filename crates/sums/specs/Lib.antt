@@ -1,0 +1,2 @@
+-- The definitions of `sums`.
+pub mod Rule
