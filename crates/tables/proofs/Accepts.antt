@@ -13,7 +13,7 @@ use Rattle.operations.specs.Limits.{recordWords}
 use Rattle.operations.specs.Record.{targetWord, targetLocked, recordFaults, lockFault}
 use Rattle.tables.specs.Check.{Answer, done, Check, placed, verdict, rising, Passed}
 use Rattle.tables.specs.Table.{Table, recordCount, recordOf}
-use Rattle.tables.specs.Checks.{rowShapeFaults, wordFaults, stretchFaults, rowFaults, rowChecks, recordChecks, openChecks, runChecks, sizeChecks}
+use Rattle.tables.specs.Checks.{rowShapeFaults, wordFaults, stretchFaults, rowFaultsAt, rowChecks, recordChecks, openChecks, runChecks, sizeChecks}
 use Rattle.tables.specs.Accepted.{RowPassed, RecordPassed, TablePassed, Accepted}
 use Rattle.tables.proofs.Verdicts.{passed-append, passed-left, passed-right, rising-intro, rising-elim, done-of-passed, passed-of-done}
 use Rattle.tables.proofs.RowChecks.{row-of-passed, passed-of-row, record-of-passed, passed-of-record, positive, not-zero}
@@ -48,7 +48,7 @@ table-of-parts t P Q R S =
       values-length = eqb→eq _ _ (T-not-not (eqb (length (t .values)) (length (t .widths))) (P .1 .1 .1 .1 .0));
       words-whole = eqb→eq _ _ (T-not-not (eqb (length (t .words) % recordWords) 0) (Q .0));
       records-most = nltb→le _ _ (Q .1 .0);
-      row-passed = λ i h. row-of-passed t i i (rising-elim (λ i. placed i (rowFaults t i)) (length (t .widths)) R i h);
+      row-passed = λ i h. row-of-passed t i i (rising-elim (λ i. placed i (rowFaultsAt t i)) (length (t .widths)) R i h);
       record-passed = S;
     }
 
@@ -65,7 +65,7 @@ pub words-passed : (t : Table) → TablePassed t → Passed (counted t)
 words-passed t A = (not-not-T (eqb (length (t .words) % recordWords) 0) (eq→eqb (A .words-whole)), (le→nltb _ _ (A .records-most), tt))
 
 pub rows-passed : (t : Table) → TablePassed t → Passed (rowChecks t)
-rows-passed t A = rising-intro (λ i. placed i (rowFaults t i)) (length (t .widths)) (λ i h. passed-of-row t i i (A .row-passed i h))
+rows-passed t A = rising-intro (λ i. placed i (rowFaultsAt t i)) (length (t .widths)) (λ i h. passed-of-row t i i (A .row-passed i h))
 
 -- ---- size's checks
 

@@ -7,3 +7,8 @@ pub mod Verdicts
 pub mod RowChecks
 pub mod Accepts
 pub mod Demand3
+pub mod Rules
+pub mod Walks
+pub mod Naming
+pub mod Recording
+pub mod Counts

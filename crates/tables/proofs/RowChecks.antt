@@ -17,7 +17,7 @@ use Rattle.operations.specs.Kinds.{isKind}
 use Rattle.operations.specs.Record.{kindWord, targetWord, firstWord, secondWord, parameterWord, kindIn, widthAt, withRow, rowsNamed, outside, widthsFit, recordFaults}
 use Rattle.tables.specs.Check.{placed, Passed}
 use Rattle.tables.specs.Table.{Table, rowAt, startOf}
-use Rattle.tables.specs.Checks.{rowFaults}
+use Rattle.tables.specs.Checks.{rowFaultsAt}
 use Rattle.tables.specs.Accepted.{RowPassed, RecordPassed}
 
 pub positive : (n : ℕ) → T (not (eqb n 0)) → 1 ≤ n
@@ -29,7 +29,7 @@ positive n p = nleb→lt n 0 (not-T (leb n 0) (λ q. T-not (eqb n 0) p (eq→eqb
 pub not-zero : (n : ℕ) → 1 ≤ n → T (not (eqb n 0))
 not-zero n h = not-T (eqb n 0) (λ q. let e = eqb→eq n 0 q in omega arith)
 
-pub row-of-passed : (t : Table) (i j : ℕ) → Passed (placed j (rowFaults t i)) → RowPassed t i
+pub row-of-passed : (t : Table) (i j : ℕ) → Passed (placed j (rowFaultsAt t i)) → RowPassed t i
 row-of-passed t i j P =
     record {
       width-least = positive (widthAt (t .widths) i) (P .0);
@@ -42,7 +42,7 @@ row-of-passed t i j P =
       };
     }
 
-pub passed-of-row : (t : Table) (i j : ℕ) → RowPassed t i → Passed (placed j (rowFaults t i))
+pub passed-of-row : (t : Table) (i j : ℕ) → RowPassed t i → Passed (placed j (rowFaultsAt t i))
 passed-of-row t i j R = (
   not-zero (widthAt (t .widths) i) (R .width-least),
   (

@@ -2,7 +2,8 @@
 -- "1, 2, 3; rows rising, 4 before 5; records rising, 6 to 10 in number order". Checks of a record: crate operations, Record.
 --   noRows .. lastPastEnd      the conditions of 1, 2 and 3;  widthZero .. planesMeet   the conditions of 4 and 5
 --   rowShapeChecks t           1 and 2;      wordChecks t      3 without a stretch;   stretchChecks t first last   3 for a stretch
---   rowFaults t i              4 and 5 of row i;               rowChecks t   of all rows
+--   rowFaults w l m v          4 and 5 of a row;  rowFaultsAt t i   of row i;   rowChecks t   of all rows
+--   widthFaults w, vectorFaults w m v   their parts: a width, and a vector of that width
 --   recordChecks t             6 to 9 of all records;          openChecks t  6 to 10 of all records
 --   runChecks, sizeChecks, writeChecks, countChecks   what run, size, write and count refuse, in order
 use mathlib.Core.Bool.{Bool, not}
@@ -52,25 +53,22 @@ lastPastEnd t last = ltb (recordCount t) last
 
 -- ---- 4: width outside 1 to 32, or lock over 1
 
-abbrev pub widthZero : Table → ℕ → Bool
-widthZero t i = eqb (widthAt (t .widths) i) 0
+abbrev pub widthZero : ℕ → Bool
+widthZero w = eqb w 0
 
-abbrev pub widthOver : Table → ℕ → Bool
-widthOver t i = ltb widthLimit (widthAt (t .widths) i)
+abbrev pub widthOver : ℕ → Bool
+widthOver w = ltb widthLimit w
 
-abbrev pub lockOver : Table → ℕ → Bool
-lockOver t i = ltb 1 (getD (t .locks) i 0)
+abbrev pub lockOver : ℕ → Bool
+lockOver l = ltb 1 l
 
--- ---- 5: vector not well formed
+-- ---- 5: vector not well formed: its mask or its value has a bit at or above the width, or they share a set bit
 
-abbrev pub maskOver : Table → ℕ → Bool
-maskOver t i = leb (2 ^ widthAt (t .widths) i) (getD (t .masks) i 0)
+abbrev pub planeOver : ℕ → ℕ → Bool
+planeOver w n = leb (2 ^ w) n
 
-abbrev pub valueOver : Table → ℕ → Bool
-valueOver t i = leb (2 ^ widthAt (t .widths) i) (getD (t .values) i 0)
-
-abbrev pub planesMeet : Table → ℕ → Bool
-planesMeet t i = not (eqb (bitAnd (getD (t .masks) i 0) (getD (t .values) i 0)) 0)
+abbrev pub planesMeet : ℕ → ℕ → Bool
+planesMeet m v = not (eqb (bitAnd m v) 0)
 
 -- ---- 7 of count: the row named outside the table;  14: output buffer shorter than size
 
@@ -94,14 +92,21 @@ wordFaults t = fault (wordsLeftOver t) 3 ∷ fault (tooManyRecords t) 3 ∷ []
 abbrev pub stretchFaults : Table → ℕ → ℕ → List Fault
 stretchFaults t first last = fault (firstAfterLast first last) 3 ∷ fault (lastPastEnd t last) 3 ∷ []
 
-abbrev pub rowFaults : Table → ℕ → List Fault
-rowFaults t i =
-    fault (widthZero t i) 4 ∷ fault (widthOver t i) 4 ∷ fault (lockOver t i) 4
-    ∷ fault (maskOver t i) 5 ∷ fault (valueOver t i) 5 ∷ fault (planesMeet t i) 5 ∷ []
+abbrev pub widthFaults : ℕ → List Fault
+widthFaults w = fault (widthZero w) 4 ∷ fault (widthOver w) 4 ∷ []
+
+abbrev pub vectorFaults : ℕ → ℕ → ℕ → List Fault
+vectorFaults w m v = fault (planeOver w m) 5 ∷ fault (planeOver w v) 5 ∷ fault (planesMeet m v) 5 ∷ []
+
+abbrev pub rowFaults : ℕ → ℕ → ℕ → ℕ → List Fault
+rowFaults w l m v = widthFaults w ++ fault (lockOver l) 4 ∷ vectorFaults w m v
+
+abbrev pub rowFaultsAt : Table → ℕ → List Fault
+rowFaultsAt t i = rowFaults (widthAt (t .widths) i) (getD (t .locks) i 0) (getD (t .masks) i 0) (getD (t .values) i 0)
 
 -- Place is a row for 4 and 5, a record for 6 to 10, the row named for count's 7, else 0.
 abbrev pub rowChecks : Table → List Check
-rowChecks t = rising (λ i. placed i (rowFaults t i)) 0 (length (t .widths))
+rowChecks t = rising (λ i. placed i (rowFaultsAt t i)) 0 (length (t .widths))
 
 abbrev pub recordChecks : Table → List Check
 recordChecks t = rising (λ i. placed i (recordFaults (t .widths) (recordOf t i))) 0 (recordCount t)

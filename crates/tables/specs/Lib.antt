@@ -6,3 +6,5 @@ pub mod Step
 pub mod Run
 pub mod Accepted
 pub mod Demand
+pub mod Coded
+pub mod Meant

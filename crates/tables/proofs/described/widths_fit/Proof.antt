@@ -1,0 +1,35 @@
+use borrow.Author.Needs.{needs}
+use mathlib.Core.Path.{_≡_, ap, _∙_}
+use mathlib.Core.Bool.{Bool}
+use mathlib.Core.List.{List, [], _∷_}
+use Prim.Native.Nat.{ℕ}
+use native.Mathlib.Omega.{arith}
+use Rattle.tables.specs.Coded.{ruleOf}
+use Rattle.tables.proofs.Rules.{code-below, rule-of-kind}
+use Rattle.tables.proofs.described.widths_fit.Statement.{statement}
+use Rattle.tables.proofs.described.widths_fit.Tie as tie
+use Rattle.tables.proofs.described.widths_fit.Reads as reads
+use Rattle.tables.proofs.described.widths_fit.Lts as lts
+use Rattle.tables.proofs.described.rule.Reads as rule-reads
+use Rattle.tables.proofs.described.rule_fits.Reads as rule-fits-reads
+
+-- src/described.rt:105:15
+rule-requires : tie.Need-rule-requires
+rule-requires c κs = search needs
+
+-- src/described.rt:105:5
+rule-fits-requires : tie.Need-rule-fits-requires
+rule-fits-requires c κs =
+    let h = code-below (c .before .args .kind) (c .before .pre .0) in
+    let e = c .rule .ensures in
+    (omega arith, omega arith, omega arith, omega arith, omega arith)
+
+-- src/described.rt:101:1
+returns : tie.Need-returns
+returns c =
+    let a = c .before .before .args in
+    c .rule-fits .ensures ∙ ap (λ (n : ℕ). ruleOf n (a .wt) (a .wa ∷ a .wb ∷ a .wc ∷ []) (a .p)) (c .before .rule .ensures)
+    ∙ ap (λ (f : ℕ → List ℕ → ℕ → Bool). f (a .wt) (a .wa ∷ a .wb ∷ a .wc ∷ []) (a .p)) (rule-of-kind (a .kind) (c .before .before .pre .0))
+
+pub widths-fit-spec : {M : Type 1} → statement M
+widths-fit-spec = tie.close (tie.spec rule-requires rule-fits-requires returns)
