@@ -1,0 +1,25 @@
+-- The laws of product bits.
+pub mod Sums
+pub mod LowRows
+pub mod Columns
+pub mod TwoPairs
+pub mod SetBits
+pub mod Flips
+pub mod Hybrids
+pub mod Walks
+pub mod Extremes
+pub mod LonePair
+pub mod Reached
+pub mod Integers
+pub mod Floors
+pub mod Outputs
+pub mod Masks
+pub mod PairMask
+pub mod Rule
+pub mod ExtremeFactors
+pub mod Words
+pub mod Held
+pub mod Sizes
+pub mod Turns
+pub mod Algorithm
+pub mod Planes

@@ -1,0 +1,59 @@
+-- `extreme_factors` meets its contract. Assumes nothing.
+use mathlib.Core.Path.{ap, ap₂, _∙_}
+use lib.Bits.{bitAnd, bitOr}
+use borrow.Author.Needs.{needs}
+use Rattle.products.specs.Factors.{andNot, leastFactor, greatestFactor, extremesOf}
+use Rattle.products.proofs.factors.extreme_factors.Statement.{statement}
+use Rattle.products.proofs.factors.extreme_factors.Tie as tie
+
+partners-requires : tie.Need-partners-requires
+partners-requires c κs = search needs
+
+partners-requires-2 : tie.Need-partners-requires-2
+partners-requires-2 c κs = search needs
+
+partners-requires-3 : tie.Need-partners-requires-3
+partners-requires-3 c κs = search needs
+
+and-not-requires : tie.Need-and-not-requires
+and-not-requires c κs = search needs
+
+partners-requires-4 : tie.Need-partners-requires-4
+partners-requires-4 c κs = search needs
+
+and-not-requires-2 : tie.Need-and-not-requires-2
+and-not-requires-2 c κs = search needs
+
+and-not-requires-3 : tie.Need-and-not-requires-3
+and-not-requires-3 c κs = search needs
+
+and-not-requires-4 : tie.Need-and-not-requires-4
+and-not-requires-4 c κs = search needs
+
+returns : tie.Need-returns
+unfolding extremesOf leastFactor greatestFactor
+returns c =
+    let a = c .before .before .before .before .before .before .before .before .args in
+    let va = c .before .before .before .before .before .before .before .partners .ensures in
+    let vb = c .before .before .before .before .before .before .partners2 .ensures in
+    let sa = c .before .before .before .before .and-not .ensures ∙ ap (andNot (a .ma)) (c .before .before .before .before .before .partners3 .ensures) in
+    let sb = c .before .before .and-not2 .ensures ∙ ap (andNot (a .mb)) (c .before .before .before .partners4 .ensures) in
+    let la = ap (bitOr (a .va)) (ap₂ bitAnd sa vb) in
+    let lb = ap (bitOr (a .vb)) (ap₂ bitAnd sb va) in
+    let ga = ap (bitOr (a .va)) (c .before .and-not3 .ensures ∙ ap₂ andNot sa vb) in
+    let gb = ap (bitOr (a .vb)) (c .and-not4 .ensures ∙ ap₂ andNot sb va) in
+    λ ι. record { least = record { a = la ι; b = lb ι }; greatest = record { a = ga ι; b = gb ι } }
+
+pub extreme-factors-spec : {M : Type 1} → statement M
+extreme-factors-spec =
+    tie.close
+    (tie.spec
+    partners-requires
+    partners-requires-2
+    partners-requires-3
+    and-not-requires
+    partners-requires-4
+    and-not-requires-2
+    and-not-requires-3
+    and-not-requires-4
+    returns)
