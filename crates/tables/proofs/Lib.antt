@@ -12,3 +12,8 @@ pub mod Walks
 pub mod Naming
 pub mod Recording
 pub mod Counts
+pub mod Lists
+pub mod Known
+pub mod StepLaws
+pub mod StretchLaws
+pub mod RunLaws

@@ -4,18 +4,23 @@
 --   rules        the width rules, in the order that the code counts them;  ruleOf n   rule n
 --   Named n words       a record passed checks 6 to 8, in a table of n rows
 --   lockWith, recordWith, recordsWith   checks 6 to 9, and 10 where it is asked for: of a lock, a record, all records
+--   usedRow      the row that a word names, 0 where it names none
+--   StepReady, StretchReady   what an accepted table gives a record's step, and a stretch of them
 --   headChecks, bodyChecks   checks 1 to 3 without a stretch; the rows' and the records' checks
 --   RowSlices    the four row slices have one length (check 2 passed)
 --   ruleCodes    the place in that list of each kind's rule
 use mathlib.Core.Bool.{Bool, true, false}
 use mathlib.Core.List.{List, [], _∷_, _++_}
-use Prim.Native.Nat.{ℕ, _≤_}
+use Prim.Native.Nat.{ℕ, _*_, _/_, _≤_, _<_}
 use mathlib.Core.Path.{_≡_}
-use lib.ListN.{length, getD}
+use lib.ListN.{length, getD, take, drop}
+use Rattle.operations.specs.Limits.{recordWords}
 use Rattle.operations.specs.Record.{widthAt, namedFaults, recordFaults, lockFault}
-use Rattle.tables.specs.Limits.{rowLimit}
+use Rattle.tables.specs.Limits.{rowLimit, widthLimit}
 use Rattle.tables.specs.Check.{Check, placed, rising, Passed}
-use Rattle.tables.specs.Table.{Table, recordCount, recordOf}
+use Rattle.tables.specs.Table.{State, Table, recordCount, recordOf}
+use Rattle.tables.specs.Accepted.{RecordPassed}
+use Rattle.tables.specs.Demand.{StateFits}
 use Rattle.tables.specs.Checks.{rowShapeFaults, wordFaults, rowChecks}
 use Rattle.operations.specs.Kind.{Use, asRow, asNumber, unused, sameWidth, sameWidths, takenWidth, joinedWidths, extendedWidth, comparedWidths, chosenWidths}
 
@@ -67,3 +72,23 @@ headChecks t = placed 0 (rowShapeFaults t) ++ placed 0 (wordFaults t)
 
 abbrev pub bodyChecks : Bool → Table → List Check
 bodyChecks b t = rowChecks t ++ recordsWith b t
+
+-- the row that a word names, 0 where it names none
+abbrev pub usedRow : Use → ℕ → ℕ
+usedRow asRow word = word
+usedRow asNumber word = 0
+usedRow unused word = 0
+
+-- what an accepted table gives a record's step: rows 1 to 32 bits wide and well formed, and a record that passed checks 6 to 9
+pub record StepReady (widths : List ℕ) (s : State) (words : List ℕ) : Type 0 where
+  pub some-row : 1 ≤ length widths
+  pub wide : (i : ℕ) → i < length widths → (1 ≤ widthAt widths i) × (widthAt widths i ≤ widthLimit)
+  pub fits : StateFits widths s
+  pub passed : RecordPassed widths words
+
+-- the same of a stretch of records, given as a part of the words
+pub record StretchReady (widths : List ℕ) (s : State) (part : List ℕ) : Type 0 where
+  pub some-row : 1 ≤ length widths
+  pub wide : (i : ℕ) → i < length widths → (1 ≤ widthAt widths i) × (widthAt widths i ≤ widthLimit)
+  pub fits : StateFits widths s
+  pub passed : (i : ℕ) → i < length part / recordWords → RecordPassed widths (take recordWords (drop (recordWords * i) part))

@@ -8,3 +8,4 @@ pub mod Accepted
 pub mod Demand
 pub mod Coded
 pub mod Meant
+pub mod Known

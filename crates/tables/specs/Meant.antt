@@ -2,6 +2,7 @@
 --   lent           the table that is lent as five slices
 --   judged cs      the first of the checks cs that refuses, or nothing
 --   meant          of a verdict of checks;   runMeant   of run's answer;   countMeant   of count's answer
+--   held           the rows that two slices of masks and values hold
 --   ran            run's answer together with the rows that the slices hold at exit
 use mathlib.Core.List.{List}
 use Prim.Native.Nat.{ℕ}
@@ -10,9 +11,11 @@ use Rattle.tables.specs.declared.Verdict.{Verdict}
 use Rattle.tables.specs.declared.Verdict.the-variants.{Passed, Refused}
 use Rattle.tables.specs.declared.CountAnswer.{CountAnswer}
 use Rattle.tables.specs.declared.CountAnswer.the-variants.{Counted, Refused as NotCounted}
-use Rattle.tables.specs.Run.{Count}
+use Rattle.tables.specs.declared.RunAnswer.{RunAnswer}
+use Rattle.tables.specs.declared.RunAnswer.the-variants.{Done, Refused as NotRun}
+use Rattle.tables.specs.Run.{Ran, Count}
 use Rattle.tables.specs.Check.{Answer, done, refused, Check, verdict}
-use Rattle.tables.specs.Table.{Table}
+use Rattle.tables.specs.Table.{State, Table}
 
 abbrev pub lent : List ℕ → List ℕ → List ℕ → List ℕ → List ℕ → Table
 lent widths locks masks values words = record { widths = widths; locks = locks; masks = masks; values = values; words = words }
@@ -27,3 +30,13 @@ meant (Refused r) = refused (r .number) (r .place)
 abbrev pub countMeant : CountAnswer → Answer Count
 countMeant (Counted u choices) = done (record { unknown = u; choices = choices })
 countMeant (NotCounted r) = refused (r .number) (r .place)
+
+abbrev pub runMeant : RunAnswer → Answer ℕ
+runMeant (Done last) = done last
+runMeant (NotRun r) = refused (r .number) (r .place)
+
+abbrev pub held : List ℕ → List ℕ → State
+held masks values = record { masks = masks; values = values }
+
+abbrev pub ran : RunAnswer → List ℕ → List ℕ → Ran
+ran r masks values = record { answer = runMeant r; rows = held masks values }

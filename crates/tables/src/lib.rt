@@ -2,18 +2,21 @@
 ghost use mathlib.Core.Path.{_≡_};
 ghost use mathlib.Core.List.{[]};
 ghost use lib.ListN.{length};
-ghost use Rattle.tables.specs.Check.{refused, placed};
+ghost use Rattle.tables.specs.Check.{done, refused, placed};
 ghost use Rattle.tables.specs.Checks.{rowShapeFaults, wordFaults, stretchFaults, sizeChecks, runChecks, countChecks};
-ghost use Rattle.tables.specs.Run.{countOf};
+ghost use Rattle.tables.specs.Run.{runOf, countOf};
 ghost use Rattle.tables.specs.Coded.{RowSlices, headChecks, bodyChecks};
 ghost use Prim.Native.Nat.{_≤_};
+ghost use Rattle.tables.specs.Demand.{Demand3};
 use records::check_records;
 use rows::check_rows;
-ghost use Rattle.tables.specs.Meant.{lent, meant, judged, countMeant};
+use stepping::step_all;
+ghost use Rattle.tables.specs.Meant.{lent, held, meant, judged, runMeant, ran, countMeant};
 
 mod described; // described.rt: what each kind uses and asks of the widths
 mod records; // records.rt: checks 6 to 10
 mod rows; // rows.rt: checks 4 and 5
+mod stepping; // stepping.rt: what records do to the rows
 
 // A refusal holds its number and its place.
 pub struct Refusal {
@@ -206,4 +209,35 @@ pub fn count(width: &[u8], lock: &[u8], mask: &[u32], value: &[u32], row: usize)
             CountAnswer::Counted(u, 1u64 << u)
         }
     }
+}
+
+// The answer of run: last, or a refusal.
+pub enum RunAnswer {
+    Done(usize),
+    Refused(Refusal),
+}
+
+// Runs the stretch of records from first up to but not including last. The whole table is checked first; a refusal leaves the rows as lent.
+pub fn run(
+    width: &[u8],
+    lock: &[u8],
+    mask: &mut [u32],
+    value: &mut [u32],
+    words: &[u32],
+    first: usize,
+    last: usize,
+) -> RunAnswer
+    ensures effect { λ r. ⌜ ran r (now (mask .exit)) (now (value .exit)) ≡ runOf (lent (now (width .entry)) (now (lock .entry)) (now (mask .entry)) (now (value .entry)) (now (words .entry))) first last ⌝ }
+    ensures demand3 { λ r. ⌜ (runMeant r ≡ done last → Demand3 (lent (now (width .entry)) (now (lock .entry)) (now (mask .entry)) (now (value .entry)) (now (words .entry))) first last (held (now (mask .exit)) (now (value .exit)))) ⌝ }
+{
+    match check_run(width, lock, mask, value, words, first, last) {
+        Verdict::Refused(r) => {
+            return RunAnswer::Refused(r);
+        }
+        Verdict::Passed => {}
+    }
+    let start = 5 * first;
+    let end = 5 * last;
+    step_all(width, mask, value, &words[start..end]);
+    RunAnswer::Done(last)
 }

@@ -1,0 +1,55 @@
+// From a kind to its kernel: the one place that picks.
+use logic::choice;
+use logic::comparison;
+use logic::logical;
+use logic::movement;
+use vectors::Vector;
+ghost use mathlib.Core.Path.{_≡_};
+ghost use Prim.Native.Nat.{_≤_, _<_};
+ghost use Rattle.vectors.specs.Row.{row};
+ghost use Rattle.operations.specs.Kinds.{kindOf};
+ghost use Rattle.operations.specs.Result.{resultOf, Ready};
+ghost use Rattle.kernels.specs.Operands.{operands};
+
+// The result of a kind over its operand rows, at target width wt and with parameter p. A row that the kind does not use counts for nothing;
+// the condition of ite is one bit wide.
+pub fn apply(
+    kind: u32,
+    wt: u32,
+    wa: u32,
+    wb: u32,
+    ma: u32,
+    va: u32,
+    mb: u32,
+    vb: u32,
+    mc: u32,
+    vc: u32,
+    p: u32,
+) -> Vector
+    requires { ⌜ (kind < 21) × (wt ≤ 32) × (wa ≤ 32) × Ready (kindOf kind) wt p (operands (kindOf kind) (row wa ma va) (row wb mb vb) (row 1 mc vc)) ⌝ }
+    ensures { λ r. ⌜ row wt (r .mask) (r .value) ≡ resultOf (kindOf kind) wt p (operands (kindOf kind) (row wa ma va) (row wb mb vb) (row 1 mc vc)) ⌝ }
+{
+    match kind {
+        0 => movement::copy(wt, ma, va),
+        1 => logical::not(wt, ma, va),
+        2 => logical::and(wt, ma, va, mb, vb),
+        3 => logical::or(wt, ma, va, mb, vb),
+        4 => logical::xor(wt, ma, va, mb, vb),
+        5 => movement::shl(wt, ma, va, p),
+        6 => movement::lshr(wt, ma, va, p),
+        7 => movement::ashr(wt, ma, va, p),
+        8 => movement::rotl(wt, ma, va, p),
+        9 => movement::extract(wt, wa, ma, va, p),
+        10 => movement::concat(wt, wa, wb, ma, va, mb, vb),
+        11 => movement::zext(wt, wa, ma, va),
+        12 => movement::sext(wt, wa, ma, va),
+        13 => sums::add(wt, ma, va, mb, vb),
+        14 => sums::sub(wt, ma, va, mb, vb),
+        15 => sums::neg(wt, ma, va),
+        16 => products::mul(wt, ma, va, mb, vb),
+        17 => comparison::eq(wa, ma, va, mb, vb),
+        18 => comparison::ult(wa, ma, va, mb, vb),
+        19 => comparison::slt(wa, ma, va, mb, vb),
+        _ => choice::ite(wt, ma, va, mb, vb, mc, vc),
+    }
+}
