@@ -12,20 +12,13 @@ use Rattle.tables.proofs.Walks.{goes-on, stops, slices-of-shape}
 use borrow.Author.Needs.{needs}
 use Rattle.tables.proofs.check_body.Statement.{statement}
 use Rattle.tables.proofs.check_body.Tie as tie
-use Rattle.tables.proofs.check_body.Reads as reads
-use Rattle.tables.proofs.check_body.Lts as lts
-use Rattle.tables.proofs.records.check_records.Reads as check-records-reads
-use Rattle.tables.proofs.rows.check_rows.Reads as check-rows-reads
 
--- src/lib.rt:102:9
 check-rows-requires : tie.Need-check-rows-requires
 check-rows-requires c κs = search needs
 
--- src/lib.rt:105:13
 enum-told : tie.Need-enum-told
 enum-told c = search needs
 
--- src/lib.rt:105:13
 returns : tie.Need-returns
 returns c =
     let a = c .before .before .before .before .before .before .before .before .args in
@@ -34,11 +27,9 @@ returns c =
 enum-told-2 : tie.Need-enum-told-2
 enum-told-2 c = search needs
 
--- src/lib.rt:109:5
 check-records-requires : tie.Need-check-records-requires
 check-records-requires c κs = search needs
 
--- src/lib.rt:91:1
 returns-2 : tie.Need-returns-2
 returns-2 c =
     let a = c .before .before .before .before .before .before .before .before .before .args in

@@ -14,21 +14,13 @@ use borrow.Author.Tests.{le-leb, lt-leb}
 use borrow.Author.Needs.{needs}
 use Rattle.tables.proofs.check_count.Statement.{statement}
 use Rattle.tables.proofs.check_count.Tie as tie
-use Rattle.tables.proofs.check_count.Reads as reads
-use Rattle.tables.proofs.check_count.Lts as lts
-use Rattle.tables.proofs.check_shape.Reads as check-shape-reads
-use Rattle.tables.proofs.refuse.Reads as refuse-reads
-use Rattle.tables.proofs.rows.check_rows.Reads as check-rows-reads
 
--- src/lib.rt:178:9
 check-shape-requires : tie.Need-check-shape-requires
 check-shape-requires c κs = search needs
 
--- src/lib.rt:181:13
 enum-told : tie.Need-enum-told
 enum-told c = search needs
 
--- src/lib.rt:181:13
 returns : tie.Need-returns
 unfolding countChecks
 returns c =
@@ -38,17 +30,14 @@ returns c =
 enum-told-2 : tie.Need-enum-told-2
 enum-told-2 c = search needs
 
--- src/lib.rt:185:9
 check-rows-requires : tie.Need-check-rows-requires
 check-rows-requires c κs =
     let a = c .before .before .before .before .before .before .before .args in
     slices-of-shape (lent (a .width .now) (a .lock .now) (a .mask .now) (a .value .now) []) (passed-of-done (placed 0 (rowShapeFaults (lent (a .width .now) (a .lock .now) (a .mask .now) (a .value .now) []))) tt tt (sym (c .before .before .check-shape .ensures) ∙ ap meant (c .enum-told2 .given .1))) .1
 
--- src/lib.rt:188:13
 enum-told-3 : tie.Need-enum-told-3
 enum-told-3 c = search needs
 
--- src/lib.rt:188:13
 returns-2 : tie.Need-returns-2
 unfolding countChecks
 returns-2 c =
@@ -60,11 +49,9 @@ returns-2 c =
 enum-told-4 : tie.Need-enum-told-4
 enum-told-4 c = search needs
 
--- src/lib.rt:193:9
 refuse-requires : tie.Need-refuse-requires
 refuse-requires c κs = search needs
 
--- src/lib.rt:193:9
 returns-3 : tie.Need-returns-3
 unfolding countChecks verdict
 returns-3 c =
@@ -74,7 +61,6 @@ returns-3 c =
     ∙ goes-on (c .before .before .before .before .check-rows .result) (rowChecks (lent (a .width .now) (a .lock .now) (a .mask .now) (a .value .now) [])) (placed (a .row) (fault (rowOutside (lent (a .width .now) (a .lock .now) (a .mask .now) (a .value .now) []) (a .row)) 7 ∷ [])) (c .before .before .before .before .check-rows .ensures) (c .before .before .enum-told4 .given .1)
     ∙ simp (le-leb _ _ (c .before .if1 .taken)))
 
--- src/lib.rt:175:1
 returns-4 : tie.Need-returns-4
 unfolding countChecks verdict
 returns-4 c =

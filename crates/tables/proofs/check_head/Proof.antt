@@ -12,20 +12,13 @@ use Rattle.tables.proofs.Walks.{goes-on, stops, slices-of-shape}
 use borrow.Author.Needs.{needs}
 use Rattle.tables.proofs.check_head.Statement.{statement}
 use Rattle.tables.proofs.check_head.Tie as tie
-use Rattle.tables.proofs.check_head.Reads as reads
-use Rattle.tables.proofs.check_head.Lts as lts
-use Rattle.tables.proofs.check_shape.Reads as check-shape-reads
-use Rattle.tables.proofs.check_words.Reads as check-words-reads
 
--- src/lib.rt:80:9
 check-shape-requires : tie.Need-check-shape-requires
 check-shape-requires c κs = search needs
 
--- src/lib.rt:83:13
 enum-told : tie.Need-enum-told
 enum-told c = search needs
 
--- src/lib.rt:83:13
 returns : tie.Need-returns
 returns c =
     let a = c .before .before .before .before .before .before .before .before .args in
@@ -34,11 +27,9 @@ returns c =
 enum-told-2 : tie.Need-enum-told-2
 enum-told-2 c = search needs
 
--- src/lib.rt:87:5
 check-words-requires : tie.Need-check-words-requires
 check-words-requires c κs = search needs
 
--- src/lib.rt:77:1
 returns-2 : tie.Need-returns-2
 returns-2 c =
     let a = c .before .before .before .before .before .before .before .before .before .args in

@@ -12,21 +12,13 @@ use Rattle.tables.proofs.Walks.{goes-on, stops, slices-of-shape}
 use borrow.Author.Needs.{needs}
 use Rattle.tables.proofs.check_run.Statement.{statement}
 use Rattle.tables.proofs.check_run.Tie as tie
-use Rattle.tables.proofs.check_run.Reads as reads
-use Rattle.tables.proofs.check_run.Lts as lts
-use Rattle.tables.proofs.check_body.Reads as check-body-reads
-use Rattle.tables.proofs.check_head.Reads as check-head-reads
-use Rattle.tables.proofs.check_stretch.Reads as check-stretch-reads
 
--- src/lib.rt:157:9
 check-head-requires : tie.Need-check-head-requires
 check-head-requires c κs = search needs
 
--- src/lib.rt:160:13
 enum-told : tie.Need-enum-told
 enum-told c = search needs
 
--- src/lib.rt:160:13
 returns : tie.Need-returns
 unfolding runChecks
 returns c =
@@ -36,15 +28,12 @@ returns c =
 enum-told-2 : tie.Need-enum-told-2
 enum-told-2 c = search needs
 
--- src/lib.rt:164:9
 check-stretch-requires : tie.Need-check-stretch-requires
 check-stretch-requires c κs = search needs
 
--- src/lib.rt:167:13
 enum-told-3 : tie.Need-enum-told-3
 enum-told-3 c = search needs
 
--- src/lib.rt:167:13
 returns-2 : tie.Need-returns-2
 unfolding runChecks
 returns-2 c =
@@ -56,13 +45,11 @@ returns-2 c =
 enum-told-4 : tie.Need-enum-told-4
 enum-told-4 c = search needs
 
--- src/lib.rt:171:5
 check-body-requires : tie.Need-check-body-requires
 check-body-requires c κs =
     let a = c .before .before .before .before .before .before .before .before .before .before .before .args in
     slices-of-shape (lent (a .width .now) (a .lock .now) (a .mask .now) (a .value .now) (a .words .now)) (passed-left (placed 0 (rowShapeFaults (lent (a .width .now) (a .lock .now) (a .mask .now) (a .value .now) (a .words .now)))) (placed 0 (wordFaults (lent (a .width .now) (a .lock .now) (a .mask .now) (a .value .now) (a .words .now)))) (passed-of-done (headChecks (lent (a .width .now) (a .lock .now) (a .mask .now) (a .value .now) (a .words .now))) tt tt (sym (c .before .before .before .before .before .check-head .ensures) ∙ ap meant (c .before .before .before .enum-told2 .given .1))))
 
--- src/lib.rt:146:1
 returns-3 : tie.Need-returns-3
 unfolding runChecks
 returns-3 c =

@@ -1,31 +1,24 @@
+-- `tables::check_stretch` meets its contract: check 3 of the stretch, test by test. Assumes nothing.
 use Rattle.tables.specs.Check.{verdict}
 use borrow.Author.Tests.{eq-eqb, ne-eqb, lt-ltb, le-ltb}
 use borrow.Author.Needs.{needs}
 use Rattle.tables.proofs.check_stretch.Statement.{statement}
 use Rattle.tables.proofs.check_stretch.Tie as tie
-use Rattle.tables.proofs.check_stretch.Reads as reads
-use Rattle.tables.proofs.check_stretch.Lts as lts
-use Rattle.tables.proofs.refuse.Reads as refuse-reads
 
--- src/lib.rt:75:9
 refuse-requires : tie.Need-refuse-requires
 refuse-requires c κs = search needs
 
--- src/lib.rt:75:9
 returns : tie.Need-returns
 unfolding verdict
 returns c = simp (lt-ltb _ _ (c .before .if1 .taken)) (c .refuse .ensures)
 
--- src/lib.rt:78:9
 refuse-requires-2 : tie.Need-refuse-requires-2
 refuse-requires-2 c κs = search needs
 
--- src/lib.rt:78:9
 returns-2 : tie.Need-returns-2
 unfolding verdict
 returns-2 c = simp (le-ltb _ _ (c .before .before .if1 .left), lt-ltb _ _ (c .before .if2 .taken)) (c .refuse2 .ensures)
 
--- src/lib.rt:71:1
 returns-3 : tie.Need-returns-3
 unfolding verdict
 returns-3 c = simp (le-ltb _ _ (c .before .if1 .left), le-ltb _ _ (c .if2 .left))

@@ -13,20 +13,13 @@ use Rattle.tables.proofs.Recording.{records-closed}
 use borrow.Author.Needs.{needs}
 use Rattle.tables.proofs.check_table.Statement.{statement}
 use Rattle.tables.proofs.check_table.Tie as tie
-use Rattle.tables.proofs.check_table.Reads as reads
-use Rattle.tables.proofs.check_table.Lts as lts
-use Rattle.tables.proofs.check_body.Reads as check-body-reads
-use Rattle.tables.proofs.check_head.Reads as check-head-reads
 
--- src/lib.rt:122:9
 check-head-requires : tie.Need-check-head-requires
 check-head-requires c κs = search needs
 
--- src/lib.rt:125:13
 enum-told : tie.Need-enum-told
 enum-told c = search needs
 
--- src/lib.rt:125:13
 returns : tie.Need-returns
 unfolding sizeChecks
 returns c =
@@ -36,13 +29,11 @@ returns c =
 enum-told-2 : tie.Need-enum-told-2
 enum-told-2 c = search needs
 
--- src/lib.rt:129:5
 check-body-requires : tie.Need-check-body-requires
 check-body-requires c κs =
     let a = c .before .before .before .before .before .before .before .before .args in
     slices-of-shape (lent (a .width .now) (a .lock .now) (a .mask .now) (a .value .now) (a .words .now)) (passed-left (placed 0 (rowShapeFaults (lent (a .width .now) (a .lock .now) (a .mask .now) (a .value .now) (a .words .now)))) (placed 0 (wordFaults (lent (a .width .now) (a .lock .now) (a .mask .now) (a .value .now) (a .words .now)))) (passed-of-done (headChecks (lent (a .width .now) (a .lock .now) (a .mask .now) (a .value .now) (a .words .now))) tt tt (sym (c .before .before .check-head .ensures) ∙ ap meant (c .enum-told2 .given .1))))
 
--- src/lib.rt:113:1
 returns-2 : tie.Need-returns-2
 unfolding sizeChecks
 returns-2 c =

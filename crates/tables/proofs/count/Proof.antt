@@ -9,54 +9,42 @@ use Rattle.tables.proofs.Counts.{refused-any, row-in, row-slices, count
 use borrow.Author.Needs.{needs}
 use Rattle.tables.proofs.count.Statement.{statement}
 use Rattle.tables.proofs.count.Tie as tie
-use Rattle.tables.proofs.count.Reads as reads
-use Rattle.tables.proofs.count.Lts as lts
-use Rattle.tables.proofs.check_count.Reads as check-count-reads
 
--- src/lib.rt:214:11
 check-count-requires : tie.Need-check-count-requires
 check-count-requires c κs = search needs
 
--- src/lib.rt:215:26
 enum-known-r : tie.Need-enum-known-r
 enum-known-r c = search needs
 
--- src/lib.rt:217:37
 enum-told : tie.Need-enum-told
 enum-told c = search needs
 
--- src/lib.rt:217:37
 mul-u : tie.Need-mul-u
 mul-u c =
     let a = c .before .before .before .before .before .before .before .args in
     let h = row-in (lent (a .width .now) (a .lock .now) (a .mask .now) (a .value .now) []) (a .row) (sym (c .before .before .check-count .ensures) ∙ ap meant (c .enum-told .given .1)) in let f = row-slices (lent (a .width .now) (a .lock .now) (a .mask .now) (a .value .now) []) (a .row) (sym (c .before .before .check-count .ensures) ∙ ap meant (c .enum-told .given .1)) .0 in omega arith
 
--- src/lib.rt:217:37
 shared-slice-read-u : tie.Need-shared-slice-read-u
 shared-slice-read-u c =
     let a = c .before .before .before .before .before .before .before .before .args in
     let h = row-in (lent (a .width .now) (a .lock .now) (a .mask .now) (a .value .now) []) (a .row) (sym (c .before .before .before .check-count .ensures) ∙ ap meant (c .before .enum-told .given .1)) in let f = row-slices (lent (a .width .now) (a .lock .now) (a .mask .now) (a .value .now) []) (a .row) (sym (c .before .before .before .check-count .ensures) ∙ ap meant (c .before .enum-told .given .1)) .1 .masks-length in omega arith
 
--- src/lib.rt:218:45
 cast-t13 : tie.Need-cast-t13
 cast-t13 c =
     let a = c .before .before .before .before .before .before .before .before .args in
     let h = count-small (lent (a .width .now) (a .lock .now) (a .mask .now) (a .value .now) []) (a .row) (sym (c .before .before .before .check-count .ensures) ∙ ap meant (c .before .enum-told .given .1)) in omega arith
 
--- src/lib.rt:218:37
 shl-t14 : tie.Need-shl-t14
 shl-t14 c =
     let a = c .before .before .before .before .before .before .before .before .args in
     let h = count-small (lent (a .width .now) (a .lock .now) (a .mask .now) (a .value .now) []) (a .row) (sym (c .before .before .before .check-count .ensures) ∙ ap meant (c .before .enum-told .given .1)) in omega arith
 
--- src/lib.rt:205:1
 returns : tie.Need-returns
 unfolding countOf
 returns c =
     let a = c .before .before .before .before .before .before .before .before .args in
     sym (refused-any (countChecks (lent (a .width .now) (a .lock .now) (a .mask .now) (a .value .now) []) (a .row)) tt _ _ _ (sym (c .before .before .before .check-count .ensures) ∙ ap meant (c .before .r .given .1)))
 
--- src/lib.rt:205:1
 returns-2 : tie.Need-returns-2
 returns-2 c =
     let a = c .before .before .before .before .before .before .before .before .args in

@@ -8,10 +8,6 @@ use Rattle.tables.proofs.RunLaws.{never-done, refused-run, accepted-run
 use borrow.Author.Needs.{needs}
 use Rattle.tables.proofs.run.Statement.{statement}
 use Rattle.tables.proofs.run.Tie as tie
-use Rattle.tables.proofs.run.Reads as reads
-use Rattle.tables.proofs.run.Lts as lts
-use Rattle.tables.proofs.check_run.Reads as check-run-reads
-use Rattle.tables.proofs.stepping.step_all.Reads as step-all-reads
 
 -- what the checks' acceptance says
 told : (c : tie.After-enum-told) →
@@ -21,23 +17,18 @@ told c =
     let a = c .before .before .before .before .before .before .before .before .before .before .args in
     accepted-run (lent (a .width .now) (a .lock .now) (a .mask .now) (a .value .now) (a .words .now)) (a .first) (a .last) (sym (c .before .before .check-run .ensures) ∙ ap meant (c .enum-told .given .1))
 
--- src/lib.rt:233:11
 check-run-requires : tie.Need-check-run-requires
 check-run-requires c κs = search needs
 
--- src/lib.rt:234:26
 enum-known-r : tie.Need-enum-known-r
 enum-known-r c = search needs
 
--- src/lib.rt:235:13
 same-length : tie.Need-same-length
 same-length c = search needs
 
--- src/lib.rt:235:13
 same-length-2 : tie.Need-same-length-2
 same-length-2 c = search needs
 
--- src/lib.rt:235:13
 returns : tie.Need-returns
 returns c =
     let a = c .before .before .before .before .before .before .before .before .before .before .before .args in
@@ -47,50 +38,40 @@ returns c =
 enum-told : tie.Need-enum-told
 enum-told c = search needs
 
--- src/lib.rt:239:17
 mul-start : tie.Need-mul-start
 mul-start c =
     omega (arith, told c)
 
--- src/lib.rt:240:15
 mul-end : tie.Need-mul-end
 mul-end c =
     omega (arith, told c)
 
--- src/lib.rt:241:34
 mul-step-all : tie.Need-mul-step-all
 mul-step-all c =
     omega (arith, told (c .before .before))
 
--- src/lib.rt:241:34
 sub-step-all : tie.Need-sub-step-all
 sub-step-all c =
     omega (arith, told (c .before .before))
 
--- src/lib.rt:241:34
 part-step-all-start : tie.Need-part-step-all-start
 part-step-all-start c =
     omega (arith, told (c .before .before))
 
--- src/lib.rt:241:34
 part-step-all-end : tie.Need-part-step-all-end
 part-step-all-end c =
     omega (arith, told (c .before .before))
 
--- src/lib.rt:241:5
 step-all-requires : tie.Need-step-all-requires
 step-all-requires c κs =
     let a = c .before .before .before .before .before .before .before .before .before .before .before .before .before .args in part-ready (lent (a .width .now) (a .lock .now) (a .mask .now) (a .value .now) (a .words .now)) (a .first) (a .last) (told (c .before .before .before))
 
--- src/lib.rt:221:1
 same-length-3 : tie.Need-same-length-3
 same-length-3 c = search needs
 
--- src/lib.rt:221:1
 same-length-4 : tie.Need-same-length-4
 same-length-4 c = search needs
 
--- src/lib.rt:221:1
 returns-2 : tie.Need-returns-2
 returns-2 c =
     let a = c .before .before .before .before .before .before .before .before .before .before .before .before .before .before .before .before .before .before .args in

@@ -1,16 +1,13 @@
+-- `tables::described::rule` meets its contract: the table is the list of codes. Assumes nothing.
 use borrow.Author.Needs.{needs}
 use mathlib.Core.Path.{refl}
 use Rattle.tables.specs.Coded.{ruleCodes}
 use Rattle.tables.proofs.described.rule.Statement.{statement}
 use Rattle.tables.proofs.described.rule.Tie as tie
-use Rattle.tables.proofs.described.rule.Reads as reads
-use Rattle.tables.proofs.described.rule.Lts as lts
 
--- src/described.rt:43:5
 array-read-result : tie.Need-array-read-result
 array-read-result c = search needs
 
--- src/described.rt:39:1
 returns : tie.Need-returns
 unfolding ruleCodes
 returns c = refl

@@ -1,3 +1,4 @@
+-- `tables::described::rule_fits` meets its contract: one rule for each code. Assumes nothing.
 use borrow.Author.Needs.{needs}
 use mathlib.Core.Path.{_≡_, refl, ap, _∙_}
 use mathlib.Core.Bool.{Bool, _&&_}
@@ -6,66 +7,49 @@ use Rattle.tables.specs.Coded.{ruleOf}
 use Rattle.tables.proofs.Rules.{six}
 use Rattle.tables.proofs.described.rule_fits.Statement.{statement}
 use Rattle.tables.proofs.described.rule_fits.Tie as tie
-use Rattle.tables.proofs.described.rule_fits.Reads as reads
-use Rattle.tables.proofs.described.rule_fits.Lts as lts
-use Rattle.tables.proofs.described.both.Reads as both-reads
-use Rattle.tables.proofs.described.same_widths.Reads as same-widths-reads
 
--- src/described.rt:76:14
 same-widths-requires : tie.Need-same-widths-requires
 same-widths-requires c κs = search needs
 
--- src/described.rt:77:14
 add-result : tie.Need-add-result
 add-result c = search needs
 
--- src/described.rt:78:20
 add-result-2 : tie.Need-add-result-2
 add-result-2 c = search needs
 
--- src/described.rt:80:14
 both-requires : tie.Need-both-requires
 both-requires c κs = search needs
 
--- src/described.rt:81:19
 same-widths-requires-2 : tie.Need-same-widths-requires-2
 same-widths-requires-2 c κs = search needs
 
--- src/described.rt:81:14
 both-requires-2 : tie.Need-both-requires-2
 both-requires-2 c κs = search needs
 
--- src/described.rt:70:1
 returns : tie.Need-returns
 unfolding ruleOf
 returns c = rw (c .match .keys1) refl
 
--- src/described.rt:70:1
 returns-2 : tie.Need-returns-2
 unfolding ruleOf
 returns-2 c = rw (c .before .match .keys2) (c .same-widths .ensures)
 
--- src/described.rt:70:1
 returns-3 : tie.Need-returns-3
 unfolding ruleOf
 returns-3 c = rw (c .match .keys3) refl
 
--- src/described.rt:70:1
 returns-4 : tie.Need-returns-4
 unfolding ruleOf
 returns-4 c = rw (c .match .keys4) refl
 
--- src/described.rt:70:1
 returns-5 : tie.Need-returns-5
 unfolding ruleOf
 returns-5 c = rw (c .match .keys5) refl
 
--- src/described.rt:70:1
 returns-6 : tie.Need-returns-6
 unfolding ruleOf
 returns-6 c = rw (c .before .match .keys6) (c .both .ensures)
 
--- src/described.rt:70:1
 returns-7 : tie.Need-returns-7
 unfolding ruleOf
 returns-7 c =

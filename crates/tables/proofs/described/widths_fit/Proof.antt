@@ -1,3 +1,4 @@
+-- `tables::described::widths_fit` meets its contract: the rule of the code is the rule of the kind. Assumes nothing.
 use borrow.Author.Needs.{needs}
 use mathlib.Core.Path.{_≡_, ap, _∙_}
 use mathlib.Core.Bool.{Bool}
@@ -8,23 +9,16 @@ use Rattle.tables.specs.Coded.{ruleOf}
 use Rattle.tables.proofs.Rules.{code-below, rule-of-kind}
 use Rattle.tables.proofs.described.widths_fit.Statement.{statement}
 use Rattle.tables.proofs.described.widths_fit.Tie as tie
-use Rattle.tables.proofs.described.widths_fit.Reads as reads
-use Rattle.tables.proofs.described.widths_fit.Lts as lts
-use Rattle.tables.proofs.described.rule.Reads as rule-reads
-use Rattle.tables.proofs.described.rule_fits.Reads as rule-fits-reads
 
--- src/described.rt:105:15
 rule-requires : tie.Need-rule-requires
 rule-requires c κs = search needs
 
--- src/described.rt:105:5
 rule-fits-requires : tie.Need-rule-fits-requires
 rule-fits-requires c κs =
     let h = code-below (c .before .args .kind) (c .before .pre .0) in
     let e = c .rule .ensures in
     (omega arith, omega arith, omega arith, omega arith, omega arith)
 
--- src/described.rt:101:1
 returns : tie.Need-returns
 returns c =
     let a = c .before .before .args in

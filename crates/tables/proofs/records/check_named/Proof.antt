@@ -8,35 +8,22 @@ use Rattle.tables.proofs.Naming.{by-kind, by-target, by-first, by-secon
 use borrow.Author.Needs.{needs}
 use Rattle.tables.proofs.records.check_named.Statement.{statement}
 use Rattle.tables.proofs.records.check_named.Tie as tie
-use Rattle.tables.proofs.records.check_named.Reads as reads
-use Rattle.tables.proofs.records.check_named.Lts as lts
-use Rattle.tables.proofs.described.parameter_use.Reads as parameter-use-reads
-use Rattle.tables.proofs.described.second_use.Reads as second-use-reads
-use Rattle.tables.proofs.described.word_misused.Reads as word-misused-reads
-use Rattle.tables.proofs.described.word_outside.Reads as word-outside-reads
-use Rattle.tables.proofs.records.index.Reads as index-reads
-use Rattle.tables.proofs.refuse.Reads as refuse-reads
 
--- src/records.rt:28:9
 refuse-requires : tie.Need-refuse-requires
 refuse-requires c κs = search needs
 
--- src/records.rt:28:9
 returns : tie.Need-returns
 returns c =
     let a = c .before .before .args in
     c .refuse .ensures ∙ sym (by-kind (a .n) (a .kind) (a .t) (a .a) (a .b) (a .p) (a .i)
     (c .before .if1 .taken))
 
--- src/records.rt:30:13
 index-requires : tie.Need-index-requires
 index-requires c κs = search needs
 
--- src/records.rt:31:9
 refuse-requires-2 : tie.Need-refuse-requires-2
 refuse-requires-2 c κs = search needs
 
--- src/records.rt:31:9
 returns-2 : tie.Need-returns-2
 returns-2 c =
     let a = c .before .before .before .before .args in
@@ -44,15 +31,12 @@ returns-2 c =
     (c .before .before .before .if1 .left)
     (subst (λ (x : ℕ). a .n ≤ x) (c .before .before .index .ensures) (c .before .if2 .taken)))
 
--- src/records.rt:33:13
 index-requires-2 : tie.Need-index-requires-2
 index-requires-2 c κs = search needs
 
--- src/records.rt:34:9
 refuse-requires-3 : tie.Need-refuse-requires-3
 refuse-requires-3 c κs = search needs
 
--- src/records.rt:34:9
 returns-3 : tie.Need-returns-3
 returns-3 c =
     let a = c .before .before .before .before .before .before .args in
@@ -61,35 +45,27 @@ returns-3 c =
     (subst (λ (x : ℕ). x < a .n) (c .before .before .before .before .index .ensures) (c .before .before .before .if2 .left))
     (subst (λ (x : ℕ). a .n ≤ x) (c .before .before .index2 .ensures) (c .before .if3 .taken)))
 
--- src/records.rt:36:28
 index-requires-3 : tie.Need-index-requires-3
 index-requires-3 c κs = search needs
 
--- src/records.rt:36:9
 second-use-requires : tie.Need-second-use-requires
 second-use-requires c κs = search needs
 
--- src/records.rt:37:31
 index-requires-4 : tie.Need-index-requires-4
 index-requires-4 c κs = search needs
 
--- src/records.rt:37:9
 parameter-use-requires : tie.Need-parameter-use-requires
 parameter-use-requires c κs = search needs
 
--- src/records.rt:38:31
 index-requires-5 : tie.Need-index-requires-5
 index-requires-5 c κs = search needs
 
--- src/records.rt:38:8
 word-outside-requires : tie.Need-word-outside-requires
 word-outside-requires c κs = search needs
 
--- src/records.rt:39:9
 refuse-requires-4 : tie.Need-refuse-requires-4
 refuse-requires-4 c κs = search needs
 
--- src/records.rt:39:9
 returns-4 : tie.Need-returns-4
 returns-4 c =
     let a = c .before .before .before .before .before .before .before .before .before .before .before .before .before .args in
@@ -99,19 +75,15 @@ returns-4 c =
     (subst (λ (x : ℕ). x < a .n) (c .before .before .before .before .before .before .before .before .before .index2 .ensures) (c .before .before .before .before .before .before .before .before .if3 .left))
     (ap (λ (x : ℕ). outside (a .n) (kindOf (a .kind) .use-b) x) (sym (c .before .before .before .index5 .ensures)) ∙ sym (c .before .before .word-outside .ensures (kindOf (a .kind) .use-b) (c .before .before .before .before .before .before .second-use .ensures ∙ ap (λ (x : ℕ). useCode (kindOf x .use-b)) (c .before .before .before .before .before .before .before .index3 .ensures))) ∙ c .before .if4 .taken))
 
--- src/records.rt:41:31
 index-requires-6 : tie.Need-index-requires-6
 index-requires-6 c κs = search needs
 
--- src/records.rt:41:8
 word-outside-requires-2 : tie.Need-word-outside-requires-2
 word-outside-requires-2 c κs = search needs
 
--- src/records.rt:42:9
 refuse-requires-5 : tie.Need-refuse-requires-5
 refuse-requires-5 c κs = search needs
 
--- src/records.rt:42:9
 returns-5 : tie.Need-returns-5
 returns-5 c =
     let a = c .before .before .before .before .before .before .before .before .before .before .before .before .before .before .before .before .args in
@@ -122,15 +94,12 @@ returns-5 c =
     (ap (λ (x : ℕ). outside (a .n) (kindOf (a .kind) .use-b) x) (sym (c .before .before .before .before .before .before .index5 .ensures)) ∙ sym (c .before .before .before .before .before .word-outside .ensures (kindOf (a .kind) .use-b) (c .before .before .before .before .before .before .before .before .before .second-use .ensures ∙ ap (λ (x : ℕ). useCode (kindOf x .use-b)) (c .before .before .before .before .before .before .before .before .before .before .index3 .ensures))) ∙ c .before .before .before .before .if4 .left)
     (ap (λ (x : ℕ). outside (a .n) (kindOf (a .kind) .use-p) x) (sym (c .before .before .before .index6 .ensures)) ∙ sym (c .before .before .word-outside2 .ensures (kindOf (a .kind) .use-p) (c .before .before .before .before .before .before .before .parameter-use .ensures ∙ ap (λ (x : ℕ). useCode (kindOf x .use-p)) (c .before .before .before .before .before .before .before .before .index4 .ensures))) ∙ c .before .if5 .taken))
 
--- src/records.rt:44:8
 word-misused-requires : tie.Need-word-misused-requires
 word-misused-requires c κs = search needs
 
--- src/records.rt:45:9
 refuse-requires-6 : tie.Need-refuse-requires-6
 refuse-requires-6 c κs = search needs
 
--- src/records.rt:45:9
 returns-6 : tie.Need-returns-6
 returns-6 c =
     let a = c .before .before .before .before .before .before .before .before .before .before .before .before .before .before .before .before .before .before .args in
@@ -142,15 +111,12 @@ returns-6 c =
     (ap (λ (x : ℕ). outside (a .n) (kindOf (a .kind) .use-p) x) (sym (c .before .before .before .before .before .index6 .ensures)) ∙ sym (c .before .before .before .before .word-outside2 .ensures (kindOf (a .kind) .use-p) (c .before .before .before .before .before .before .before .before .before .parameter-use .ensures ∙ ap (λ (x : ℕ). useCode (kindOf x .use-p)) (c .before .before .before .before .before .before .before .before .before .before .index4 .ensures))) ∙ c .before .before .before .if5 .left)
     (sym (c .before .before .word-misused .ensures (kindOf (a .kind) .use-b) (c .before .before .before .before .before .before .before .before .before .before .before .second-use .ensures ∙ ap (λ (x : ℕ). useCode (kindOf x .use-b)) (c .before .before .before .before .before .before .before .before .before .before .before .before .index3 .ensures))) ∙ c .before .if6 .taken))
 
--- src/records.rt:47:8
 word-misused-requires-2 : tie.Need-word-misused-requires-2
 word-misused-requires-2 c κs = search needs
 
--- src/records.rt:48:9
 refuse-requires-7 : tie.Need-refuse-requires-7
 refuse-requires-7 c κs = search needs
 
--- src/records.rt:48:9
 returns-7 : tie.Need-returns-7
 returns-7 c =
     let a = c .before .before .before .before .before .before .before .before .before .before .before .before .before .before .before .before .before .before .before .before .args in
@@ -163,7 +129,6 @@ returns-7 c =
     (sym (c .before .before .before .before .word-misused .ensures (kindOf (a .kind) .use-b) (c .before .before .before .before .before .before .before .before .before .before .before .before .before .second-use .ensures ∙ ap (λ (x : ℕ). useCode (kindOf x .use-b)) (c .before .before .before .before .before .before .before .before .before .before .before .before .before .before .index3 .ensures))) ∙ c .before .before .before .if6 .left)
     (sym (c .before .before .word-misused2 .ensures (kindOf (a .kind) .use-p) (c .before .before .before .before .before .before .before .before .before .before .before .parameter-use .ensures ∙ ap (λ (x : ℕ). useCode (kindOf x .use-p)) (c .before .before .before .before .before .before .before .before .before .before .before .before .index4 .ensures))) ∙ c .before .if7 .taken))
 
--- src/records.rt:24:1
 returns-8 : tie.Need-returns-8
 returns-8 c =
     let a = c .before .before .before .before .before .before .before .before .before .before .before .before .before .before .before .before .before .before .before .args in

@@ -17,76 +17,55 @@ use Rattle.tables.proofs.Recording.{lock-target}
 use borrow.Author.Needs.{needs}
 use Rattle.tables.proofs.records.check_one.Statement.{statement}
 use Rattle.tables.proofs.records.check_one.Tie as tie
-use Rattle.tables.proofs.records.check_one.Reads as reads
-use Rattle.tables.proofs.records.check_one.Lts as lts
-use Rattle.tables.proofs.records.check_lock.Reads as check-lock-reads
-use Rattle.tables.proofs.records.check_record.Reads as check-record-reads
 
--- src/records.rt:116:13
 mul-k : tie.Need-mul-k
 mul-k c = search needs
 
--- src/records.rt:117:16
 mul-kind : tie.Need-mul-kind
 mul-kind c = search needs
 
--- src/records.rt:117:16
 shared-slice-read-kind : tie.Need-shared-slice-read-kind
 shared-slice-read-kind c = search needs
 
--- src/records.rt:118:19
 add-t : tie.Need-add-t
 add-t c = search needs
 
--- src/records.rt:118:13
 mul-t : tie.Need-mul-t
 mul-t c = search needs
 
--- src/records.rt:118:13
 shared-slice-read-t : tie.Need-shared-slice-read-t
 shared-slice-read-t c = search needs
 
--- src/records.rt:119:19
 add-a : tie.Need-add-a
 add-a c = search needs
 
--- src/records.rt:119:13
 mul-a : tie.Need-mul-a
 mul-a c = search needs
 
--- src/records.rt:119:13
 shared-slice-read-a : tie.Need-shared-slice-read-a
 shared-slice-read-a c = search needs
 
--- src/records.rt:120:19
 add-b : tie.Need-add-b
 add-b c = search needs
 
--- src/records.rt:120:13
 mul-b : tie.Need-mul-b
 mul-b c = search needs
 
--- src/records.rt:120:13
 shared-slice-read-b : tie.Need-shared-slice-read-b
 shared-slice-read-b c = search needs
 
--- src/records.rt:121:19
 add-p : tie.Need-add-p
 add-p c = search needs
 
--- src/records.rt:121:13
 mul-p : tie.Need-mul-p
 mul-p c = search needs
 
--- src/records.rt:121:13
 shared-slice-read-p : tie.Need-shared-slice-read-p
 shared-slice-read-p c = search needs
 
--- src/records.rt:122:9
 check-record-requires : tie.Need-check-record-requires
 check-record-requires c κs = search needs
 
--- src/records.rt:125:13
 -- what the record's own verdict says of the words that are lent
 found : (c : tie.After-check-record) →
     let a = c .before .before .before .before .before .before .before .before .before .args in
@@ -99,7 +78,6 @@ found c =
 enum-told : tie.Need-enum-told
 enum-told c = search needs
 
--- src/records.rt:125:13
 returns : tie.Need-returns
 returns c =
     let a = c .before .before .before .before .before .before .before .before .before .before .before .args in
@@ -109,7 +87,6 @@ returns c =
 enum-told-2 : tie.Need-enum-told-2
 enum-told-2 c = search needs
 
--- src/records.rt:129:5
 check-lock-requires : tie.Need-check-lock-requires
 check-lock-requires c κs =
     let a = c .before .before .before .before .before .before .before .before .before .before .before .args in
@@ -117,7 +94,6 @@ check-lock-requires c κs =
     let e = ap targetWord (record-words (a .words .now) (5 * a .i) (omega arith)) in
     omega arith
 
--- src/records.rt:112:1
 returns-2 : tie.Need-returns-2
 returns-2 c =
     let a = c .before .before .before .before .before .before .before .before .before .before .before .before .args in

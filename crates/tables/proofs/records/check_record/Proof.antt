@@ -13,21 +13,13 @@ use Rattle.tables.proofs.Recording.{fits-passed, fits-refused}
 use borrow.Author.Needs.{needs}
 use Rattle.tables.proofs.records.check_record.Statement.{statement}
 use Rattle.tables.proofs.records.check_record.Tie as tie
-use Rattle.tables.proofs.records.check_record.Reads as reads
-use Rattle.tables.proofs.records.check_record.Lts as lts
-use Rattle.tables.proofs.records.check_named.Reads as check-named-reads
-use Rattle.tables.proofs.records.record_fits.Reads as record-fits-reads
-use Rattle.tables.proofs.refuse.Reads as refuse-reads
 
--- src/records.rt:84:9
 check-named-requires : tie.Need-check-named-requires
 check-named-requires c κs = search needs
 
--- src/records.rt:87:13
 enum-told : tie.Need-enum-told
 enum-told c = search needs
 
--- src/records.rt:87:13
 returns : tie.Need-returns
 unfolding recordFaults
 returns c =
@@ -37,7 +29,6 @@ returns c =
 enum-told-2 : tie.Need-enum-told-2
 enum-told-2 c = search needs
 
--- src/records.rt:91:8
 record-fits-requires : tie.Need-record-fits-requires
 record-fits-requires c κs =
     let a = c .before .before .before .before .args in
@@ -46,7 +37,6 @@ record-fits-requires c κs =
       passed = passed-anywhere (a .i) 0 (namedFaults (length (a .width .now)) (a .kind ∷ a .t ∷ a .a ∷ a .b ∷ a .p ∷ [])) (passed-of-done (placed (a .i) (namedFaults (length (a .width .now)) (a .kind ∷ a .t ∷ a .a ∷ a .b ∷ a .p ∷ []))) tt tt (sym (c .before .before .check-named .ensures) ∙ ap meant (c .enum-told2 .given .1)));
     }
 
--- src/records.rt:92:9
 returns-2 : tie.Need-returns-2
 unfolding recordFaults
 returns-2 c =
@@ -54,11 +44,9 @@ returns-2 c =
     sym (goes-on (c .before .before .before .before .check-named .result) (placed (a .i) (namedFaults (length (a .width .now)) (a .kind ∷ a .t ∷ a .a ∷ a .b ∷ a .p ∷ []))) (placed (a .i) (fault (not (widthsFit (a .width .now) (a .kind ∷ a .t ∷ a .a ∷ a .b ∷ a .p ∷ []))) 9 ∷ [])) (c .before .before .before .before .check-named .ensures) (c .before .before .enum-told2 .given .1)
     ∙ fits-passed (widthsFit (a .width .now) (a .kind ∷ a .t ∷ a .a ∷ a .b ∷ a .p ∷ [])) (a .i) (sym (c .before .record-fits .ensures) ∙ c .if1 .taken))
 
--- src/records.rt:94:5
 refuse-requires : tie.Need-refuse-requires
 refuse-requires c κs = search needs
 
--- src/records.rt:80:1
 returns-3 : tie.Need-returns-3
 unfolding recordFaults
 returns-3 c =

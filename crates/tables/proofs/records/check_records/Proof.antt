@@ -11,9 +11,6 @@ use Rattle.tables.specs.Coded.{recordWith, recordsWith}
 use Rattle.tables.proofs.Walks.{goes-on, stops, rest, rest-start, rest-step, rest-end}
 use Rattle.tables.proofs.records.check_records.Statement.{statement}
 use Rattle.tables.proofs.records.check_records.Tie as tie
-use Rattle.tables.proofs.records.check_records.Reads as reads
-use Rattle.tables.proofs.records.check_records.Lts as lts
-use Rattle.tables.proofs.records.check_one.Reads as check-one-reads
 
 abbrev Inv-loop : tie.InvT-loop
 Inv-loop locked width lock words n i₀ i =
@@ -23,24 +20,20 @@ Inv-loop locked width lock words n i₀ i =
 abbrev μ-loop : tie.MeasureT-loop
 μ-loop locked width lock words n i₀ i = length words / 5 - i
 
--- src/records.rt:139:5
 loop-holds : tie.Need-loop-holds Inv-loop μ-loop
 loop-holds c =
     let a = c .before .before .before .args in
     (omega arith, rest-start (recordWith (a .locked) (lent (a .width .now) (a .lock .now) [] [] (a .words .now))) (length (a .words .now) / 5))
 
--- src/records.rt:140:13
 check-one-requires : tie.Need-check-one-requires Inv-loop μ-loop
 check-one-requires c κs = search needs
 
 enum-told : tie.Need-enum-told Inv-loop μ-loop
 enum-told c = search needs
 
--- src/records.rt:144:17
 enum-told-2 : tie.Need-enum-told-2 Inv-loop μ-loop
 enum-told-2 c = search needs
 
--- src/records.rt:144:17
 returns : tie.Need-returns Inv-loop μ-loop
 returns c =
     let a = c .before .before .before .before .before .before .before .before .args in
@@ -51,15 +44,12 @@ returns c =
     ap meant (c .enum-told2 .given .1)
     ∙ sym (l .inv .1 ∙ rest-step f n (l .i) h ∙ stops (c .before .before .check-one .result) (f (l .i)) (rising f (l .i + 1) (n - (l .i + 1))) (c .before .before .check-one .ensures) _ (c .enum-told2 .given .1))
 
--- src/records.rt:147:9
 add-i : tie.Need-add-i Inv-loop μ-loop
 add-i c = omega arith
 
--- src/records.rt:139:5
 loop-less : tie.Need-loop-less Inv-loop μ-loop
 loop-less c = omega arith
 
--- src/records.rt:139:5
 loop-again : tie.Need-loop-again Inv-loop μ-loop
 loop-again c =
     let a = c .before .before .before .before .before .before .before .before .args in
@@ -71,7 +61,6 @@ loop-again c =
       l .inv .1 ∙ rest-step f n (l .i) h ∙ goes-on (c .before .before .check-one .result) (f (l .i)) (rising f (l .i + 1) (n - (l .i + 1))) (c .before .before .check-one .ensures) (c .enum-told .given .1),
     )
 
--- src/records.rt:133:1
 returns-2 : tie.Need-returns-2 Inv-loop μ-loop
 returns-2 c =
     let a = c .before .before .before .before .before .args in

@@ -10,86 +10,64 @@ use Rattle.tables.proofs.Rules.{fits-of}
 use borrow.Author.Needs.{needs}
 use Rattle.tables.proofs.records.record_fits.Statement.{statement}
 use Rattle.tables.proofs.records.record_fits.Tie as tie
-use Rattle.tables.proofs.records.record_fits.Reads as reads
-use Rattle.tables.proofs.records.record_fits.Lts as lts
-use Rattle.tables.proofs.described.parameter_use.Reads as parameter-use-reads
-use Rattle.tables.proofs.described.second_use.Reads as second-use-reads
-use Rattle.tables.proofs.described.widths_fit.Reads as widths-fit-reads
-use Rattle.tables.proofs.records.index.Reads as index-reads
-use Rattle.tables.proofs.records.used_width.Reads as used-width-reads
-use Rattle.tables.proofs.rows.wide.Reads as wide-reads
 
--- src/records.rt:69:9
 index-requires : tie.Need-index-requires
 index-requires c κs = search needs
 
--- src/records.rt:70:9
 index-requires-2 : tie.Need-index-requires-2
 index-requires-2 c κs = search needs
 
--- src/records.rt:71:9
 index-requires-3 : tie.Need-index-requires-3
 index-requires-3 c κs = search needs
 
--- src/records.rt:72:19
 shared-slice-read-wide : tie.Need-shared-slice-read-wide
 shared-slice-read-wide c =
     let a = c .before .before .before .before .before .args in
     let n = named-facts (length (a .width .now)) (a .kind) (a .t) (a .a) (a .b) (a .p) (c .before .before .before .before .before .pre) in
     let e = c .before .before .index2 .ensures in let h = n .target-in in omega arith
 
--- src/records.rt:72:9
 wide-requires : tie.Need-wide-requires
 wide-requires c κs = search needs
 
--- src/records.rt:73:19
 shared-slice-read-wide-2 : tie.Need-shared-slice-read-wide-2
 shared-slice-read-wide-2 c =
     let a = c .before .before .before .before .before .before .before .args in
     let n = named-facts (length (a .width .now)) (a .kind) (a .t) (a .a) (a .b) (a .p) (c .before .before .before .before .before .before .before .pre) in
     let e = c .before .before .before .index3 .ensures in let h = n .first-in in omega arith
 
--- src/records.rt:73:9
 wide-requires-2 : tie.Need-wide-requires-2
 wide-requires-2 c κs = search needs
 
--- src/records.rt:74:32
 second-use-requires : tie.Need-second-use-requires
 second-use-requires c κs =
     let a = c .before .before .before .before .before .before .before .before .args in
     let n = named-facts (length (a .width .now)) (a .kind) (a .t) (a .a) (a .b) (a .p) (c .before .before .before .before .before .before .before .before .pre) in
     let e = c .before .before .before .before .before .before .index .ensures in let h = n .kind-below-21 in omega arith
 
--- src/records.rt:74:47
 index-requires-4 : tie.Need-index-requires-4
 index-requires-4 c κs = search needs
 
--- src/records.rt:74:9
 used-width-requires : tie.Need-used-width-requires
 used-width-requires c κs =
     let a = c .before .before .before .before .before .before .before .before .before .before .args in
     let n = named-facts (length (a .width .now)) (a .kind) (a .t) (a .a) (a .b) (a .p) (c .before .before .before .before .before .before .before .before .before .before .pre) in
     λ e. let h = n .second-in (sym (c .before .second-use .ensures ∙ ap (λ (x : ℕ). useCode (kindOf x .use-b)) (c .before .before .before .before .before .before .before .before .index .ensures)) ∙ e) in omega (arith, c .index4 .ensures)
 
--- src/records.rt:75:32
 parameter-use-requires : tie.Need-parameter-use-requires
 parameter-use-requires c κs =
     let a = c .before .before .before .before .before .before .before .before .before .before .before .args in
     let n = named-facts (length (a .width .now)) (a .kind) (a .t) (a .a) (a .b) (a .p) (c .before .before .before .before .before .before .before .before .before .before .before .pre) in
     let e = c .before .before .before .before .before .before .before .before .before .index .ensures in let h = n .kind-below-21 in omega arith
 
--- src/records.rt:75:50
 index-requires-5 : tie.Need-index-requires-5
 index-requires-5 c κs = search needs
 
--- src/records.rt:75:9
 used-width-requires-2 : tie.Need-used-width-requires-2
 used-width-requires-2 c κs =
     let a = c .before .before .before .before .before .before .before .before .before .before .before .before .before .args in
     let n = named-facts (length (a .width .now)) (a .kind) (a .t) (a .a) (a .b) (a .p) (c .before .before .before .before .before .before .before .before .before .before .before .before .before .pre) in
     λ e. let h = n .parameter-in (sym (c .before .parameter-use .ensures ∙ ap (λ (x : ℕ). useCode (kindOf x .use-p)) (c .before .before .before .before .before .before .before .before .before .before .before .index .ensures)) ∙ e) in omega (arith, c .index5 .ensures)
 
--- src/records.rt:76:5
 widths-fit-requires : tie.Need-widths-fit-requires
 widths-fit-requires c κs =
     let a = c .before .before .before .before .before .before .before .before .before .before .before .before .before .before .args in
@@ -104,7 +82,6 @@ widths-fit-requires c κs =
     let u = n .parameter-small in
     (omega arith, omega arith, omega arith, omega arith, omega arith)
 
--- src/records.rt:65:1
 returns : tie.Need-returns
 returns c =
     let a = c .before .before .before .before .before .before .before .before .before .before .before .before .before .before .before .args in

@@ -11,10 +11,6 @@ use borrow.Author.Needs.{needs}
 use native.Mathlib.Omega.{arith}
 use Rattle.tables.proofs.rows.check_rows.Statement.{statement}
 use Rattle.tables.proofs.rows.check_rows.Tie as tie
-use Rattle.tables.proofs.rows.check_rows.Reads as reads
-use Rattle.tables.proofs.rows.check_rows.Lts as lts
-use Rattle.tables.proofs.rows.check_row.Reads as check-row-reads
-use Rattle.tables.proofs.rows.wide.Reads as wide-reads
 
 abbrev faults : List ℕ → List ℕ → List ℕ → List ℕ → ℕ → List Check
 faults width lock mask value i = placed i (rowFaultsAt (lent width lock mask value []) i)
@@ -27,39 +23,30 @@ Inv-loop width lock mask value i₀ i =
 abbrev μ-loop : tie.MeasureT-loop
 μ-loop width lock mask value i₀ i = length width - i
 
--- src/rows.rt:50:5
 loop-holds : tie.Need-loop-holds Inv-loop μ-loop
 loop-holds c = let a = c .before .before .before .before .args in (omega arith, rest-start (faults (a .width .now) (a .lock .now) (a .mask .now) (a .value .now)) (length (a .width .now)))
 
--- src/rows.rt:51:36
 shared-slice-read-wide : tie.Need-shared-slice-read-wide Inv-loop μ-loop
 shared-slice-read-wide c = omega arith
 
--- src/rows.rt:51:31
 wide-requires : tie.Need-wide-requires Inv-loop μ-loop
 wide-requires c κs = search needs
 
--- src/rows.rt:51:47
 shared-slice-read-check-row : tie.Need-shared-slice-read-check-row Inv-loop μ-loop
 shared-slice-read-check-row c = omega arith
 
--- src/rows.rt:51:56
 mul-check-row : tie.Need-mul-check-row Inv-loop μ-loop
 mul-check-row c = omega arith
 
--- src/rows.rt:51:56
 shared-slice-read-check-row-2 : tie.Need-shared-slice-read-check-row-2 Inv-loop μ-loop
 shared-slice-read-check-row-2 c = omega arith
 
--- src/rows.rt:51:65
 mul-check-row-2 : tie.Need-mul-check-row-2 Inv-loop μ-loop
 mul-check-row-2 c = omega arith
 
--- src/rows.rt:51:65
 shared-slice-read-check-row-3 : tie.Need-shared-slice-read-check-row-3 Inv-loop μ-loop
 shared-slice-read-check-row-3 c = omega arith
 
--- src/rows.rt:51:13
 check-row-requires : tie.Need-check-row-requires Inv-loop μ-loop
 check-row-requires c κs = search needs
 
@@ -75,11 +62,9 @@ found c =
 enum-told : tie.Need-enum-told Inv-loop μ-loop
 enum-told c = search needs
 
--- src/rows.rt:55:17
 enum-told-2 : tie.Need-enum-told-2 Inv-loop μ-loop
 enum-told-2 c = search needs
 
--- src/rows.rt:55:17
 returns : tie.Need-returns Inv-loop μ-loop
 returns c =
     let h = c .before .before .before .before .before .before .before .before .loop-test .taken in
@@ -90,15 +75,12 @@ returns c =
     ap meant (c .enum-told2 .given .1)
     ∙ sym (l .inv .1 ∙ rest-step f n (l .i) h ∙ stops (c .before .before .check-row .result) (f (l .i)) (rising f (l .i + 1) (n - (l .i + 1))) (found (c .before .before)) _ (c .enum-told2 .given .1))
 
--- src/rows.rt:58:9
 add-i : tie.Need-add-i Inv-loop μ-loop
 add-i c = omega arith
 
--- src/rows.rt:50:5
 loop-less : tie.Need-loop-less Inv-loop μ-loop
 loop-less c = omega arith
 
--- src/rows.rt:50:5
 loop-again : tie.Need-loop-again Inv-loop μ-loop
 loop-again c =
     let h = c .before .before .before .before .before .before .before .before .loop-test .taken in
@@ -110,7 +92,6 @@ loop-again c =
       l .inv .1 ∙ rest-step f n (l .i) h ∙ goes-on (c .before .before .check-row .result) (f (l .i)) (rising f (l .i + 1) (n - (l .i + 1))) (found (c .before .before)) (c .enum-told .given .1),
     )
 
--- src/rows.rt:45:1
 returns-2 : tie.Need-returns-2 Inv-loop μ-loop
 returns-2 c =
     let a = c .before .before .before .before .before .before .args in

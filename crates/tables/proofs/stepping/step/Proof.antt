@@ -9,162 +9,127 @@ use Rattle.tables.proofs.StepLaws.{kind-in, first-in, second-in, condit
 use borrow.Author.Needs.{needs}
 use Rattle.tables.proofs.stepping.step.Statement.{statement}
 use Rattle.tables.proofs.stepping.step.Tie as tie
-use Rattle.tables.proofs.stepping.step.Reads as reads
-use Rattle.tables.proofs.stepping.step.Lts as lts
-use Rattle.kernels.proofs.apply.Reads as apply-reads
-use Rattle.tables.proofs.described.parameter_use.Reads as parameter-use-reads
-use Rattle.tables.proofs.described.second_use.Reads as second-use-reads
-use Rattle.tables.proofs.records.index.Reads as index-reads
-use Rattle.tables.proofs.rows.wide.Reads as wide-reads
-use Rattle.tables.proofs.stepping.used_row.Reads as used-row-reads
 
--- src/stepping.rt:41:9
 index-requires : tie.Need-index-requires
 index-requires c κs = search needs
 
--- src/stepping.rt:42:9
 index-requires-2 : tie.Need-index-requires-2
 index-requires-2 c κs = search needs
 
--- src/stepping.rt:43:33
 index-requires-3 : tie.Need-index-requires-3
 index-requires-3 c κs = search needs
 
--- src/stepping.rt:43:22
 second-use-requires : tie.Need-second-use-requires
 second-use-requires c κs =
     let a = c .before .before .before .before .before .before .args in
     let R = c .before .before .before .before .before .before .pre in
     let h = kind-in (a .width .now) (held (a .mask .now) (a .value .now)) (a .kind) (a .t) (a .a) (a .b) (a .p) R in omega (arith, c .index3 .ensures)
 
--- src/stepping.rt:43:9
 used-row-requires : tie.Need-used-row-requires
 used-row-requires c κs = search needs
 
--- src/stepping.rt:44:36
 index-requires-4 : tie.Need-index-requires-4
 index-requires-4 c κs = search needs
 
--- src/stepping.rt:44:22
 parameter-use-requires : tie.Need-parameter-use-requires
 parameter-use-requires c κs =
     let a = c .before .before .before .before .before .before .before .before .before .args in
     let R = c .before .before .before .before .before .before .before .before .before .pre in
     let h = kind-in (a .width .now) (held (a .mask .now) (a .value .now)) (a .kind) (a .t) (a .a) (a .b) (a .p) R in omega (arith, c .index4 .ensures)
 
--- src/stepping.rt:44:9
 used-row-requires-2 : tie.Need-used-row-requires-2
 used-row-requires-2 c κs = search needs
 
--- src/stepping.rt:45:19
 shared-slice-read-wide : tie.Need-shared-slice-read-wide
 shared-slice-read-wide c = search needs
 
--- src/stepping.rt:45:9
 wide-requires : tie.Need-wide-requires
 wide-requires c κs = search needs
 
--- src/stepping.rt:46:19
 shared-slice-read-wide-2 : tie.Need-shared-slice-read-wide-2
 shared-slice-read-wide-2 c =
     let a = c .before .before .before .before .before .before .before .before .before .before .before .before .before .before .args in
     let R = c .before .before .before .before .before .before .before .before .before .before .before .before .before .before .pre in
     let h = first-in (a .width .now) (held (a .mask .now) (a .value .now)) (a .kind) (a .t) (a .a) (a .b) (a .p) R in let e = c .before .before .before .before .before .before .before .before .before .index2 .ensures in omega arith
 
--- src/stepping.rt:46:9
 wide-requires-2 : tie.Need-wide-requires-2
 wide-requires-2 c κs = search needs
 
--- src/stepping.rt:47:19
 shared-slice-read-wide-3 : tie.Need-shared-slice-read-wide-3
 shared-slice-read-wide-3 c =
     let a = c .before .before .before .before .before .before .before .before .before .before .before .before .before .before .before .before .args in
     let R = c .before .before .before .before .before .before .before .before .before .before .before .before .before .before .before .before .pre in
     let h = second-in (a .width .now) (held (a .mask .now) (a .value .now)) (a .kind) (a .t) (a .a) (a .b) (a .p) R in let e = (c .before .before .before .before .before .before .before .before .used-row .ensures (kindOf (a .kind) .use-b) (c .before .before .before .before .before .before .before .before .before .second-use .ensures ∙ ap (λ (x : ℕ). useCode (kindOf x .use-b)) (c .before .before .before .before .before .before .before .before .before .before .index3 .ensures))) in omega arith
 
--- src/stepping.rt:47:9
 wide-requires-3 : tie.Need-wide-requires-3
 wide-requires-3 c κs = search needs
 
--- src/stepping.rt:53:9
 mul-apply : tie.Need-mul-apply
 mul-apply c = search needs
 
--- src/stepping.rt:53:9
 slice-read-apply : tie.Need-slice-read-apply
 slice-read-apply c =
     let a = c .before .before .before .before .before .before .before .before .before .before .before .before .before .before .before .before .before .before .args in
     let R = c .before .before .before .before .before .before .before .before .before .before .before .before .before .before .before .before .before .before .pre in
     let h = first-in (a .width .now) (held (a .mask .now) (a .value .now)) (a .kind) (a .t) (a .a) (a .b) (a .p) R in let e = c .before .before .before .before .before .before .before .before .before .before .before .before .before .index2 .ensures in let l = R .fits .masks-length in omega arith
 
--- src/stepping.rt:54:9
 mul-apply-2 : tie.Need-mul-apply-2
 mul-apply-2 c = search needs
 
--- src/stepping.rt:54:9
 slice-read-apply-2 : tie.Need-slice-read-apply-2
 slice-read-apply-2 c =
     let a = c .before .before .before .before .before .before .before .before .before .before .before .before .before .before .before .before .before .before .before .args in
     let R = c .before .before .before .before .before .before .before .before .before .before .before .before .before .before .before .before .before .before .before .pre in
     let h = first-in (a .width .now) (held (a .mask .now) (a .value .now)) (a .kind) (a .t) (a .a) (a .b) (a .p) R in let e = c .before .before .before .before .before .before .before .before .before .before .before .before .before .before .index2 .ensures in let l = R .fits .values-length in omega arith
 
--- src/stepping.rt:55:9
 mul-apply-3 : tie.Need-mul-apply-3
 mul-apply-3 c =
     let a = c .before .before .before .before .before .before .before .before .before .before .before .before .before .before .before .before .before .before .before .args in
     let R = c .before .before .before .before .before .before .before .before .before .before .before .before .before .before .before .before .before .before .before .pre in
     let h = second-in (a .width .now) (held (a .mask .now) (a .value .now)) (a .kind) (a .t) (a .a) (a .b) (a .p) R in let e = (c .before .before .before .before .before .before .before .before .before .before .before .used-row .ensures (kindOf (a .kind) .use-b) (c .before .before .before .before .before .before .before .before .before .before .before .before .second-use .ensures ∙ ap (λ (x : ℕ). useCode (kindOf x .use-b)) (c .before .before .before .before .before .before .before .before .before .before .before .before .before .index3 .ensures))) in let l = R .fits .masks-length in omega arith
 
--- src/stepping.rt:55:9
 slice-read-apply-3 : tie.Need-slice-read-apply-3
 slice-read-apply-3 c =
     let a = c .before .before .before .before .before .before .before .before .before .before .before .before .before .before .before .before .before .before .before .before .args in
     let R = c .before .before .before .before .before .before .before .before .before .before .before .before .before .before .before .before .before .before .before .before .pre in
     let h = second-in (a .width .now) (held (a .mask .now) (a .value .now)) (a .kind) (a .t) (a .a) (a .b) (a .p) R in let e = (c .before .before .before .before .before .before .before .before .before .before .before .before .used-row .ensures (kindOf (a .kind) .use-b) (c .before .before .before .before .before .before .before .before .before .before .before .before .before .second-use .ensures ∙ ap (λ (x : ℕ). useCode (kindOf x .use-b)) (c .before .before .before .before .before .before .before .before .before .before .before .before .before .before .index3 .ensures))) in let l = R .fits .masks-length in omega arith
 
--- src/stepping.rt:56:9
 mul-apply-4 : tie.Need-mul-apply-4
 mul-apply-4 c =
     let a = c .before .before .before .before .before .before .before .before .before .before .before .before .before .before .before .before .before .before .before .before .args in
     let R = c .before .before .before .before .before .before .before .before .before .before .before .before .before .before .before .before .before .before .before .before .pre in
     let h = second-in (a .width .now) (held (a .mask .now) (a .value .now)) (a .kind) (a .t) (a .a) (a .b) (a .p) R in let e = (c .before .before .before .before .before .before .before .before .before .before .before .before .used-row .ensures (kindOf (a .kind) .use-b) (c .before .before .before .before .before .before .before .before .before .before .before .before .before .second-use .ensures ∙ ap (λ (x : ℕ). useCode (kindOf x .use-b)) (c .before .before .before .before .before .before .before .before .before .before .before .before .before .before .index3 .ensures))) in let l = R .fits .masks-length in omega arith
 
--- src/stepping.rt:56:9
 slice-read-apply-4 : tie.Need-slice-read-apply-4
 slice-read-apply-4 c =
     let a = c .before .before .before .before .before .before .before .before .before .before .before .before .before .before .before .before .before .before .before .before .before .args in
     let R = c .before .before .before .before .before .before .before .before .before .before .before .before .before .before .before .before .before .before .before .before .before .pre in
     let h = second-in (a .width .now) (held (a .mask .now) (a .value .now)) (a .kind) (a .t) (a .a) (a .b) (a .p) R in let e = (c .before .before .before .before .before .before .before .before .before .before .before .before .before .used-row .ensures (kindOf (a .kind) .use-b) (c .before .before .before .before .before .before .before .before .before .before .before .before .before .before .second-use .ensures ∙ ap (λ (x : ℕ). useCode (kindOf x .use-b)) (c .before .before .before .before .before .before .before .before .before .before .before .before .before .before .before .index3 .ensures))) in let l = R .fits .values-length in omega arith
 
--- src/stepping.rt:57:9
 mul-apply-5 : tie.Need-mul-apply-5
 mul-apply-5 c =
     let a = c .before .before .before .before .before .before .before .before .before .before .before .before .before .before .before .before .before .before .before .before .before .args in
     let R = c .before .before .before .before .before .before .before .before .before .before .before .before .before .before .before .before .before .before .before .before .before .pre in
     let h = condition-in (a .width .now) (held (a .mask .now) (a .value .now)) (a .kind) (a .t) (a .a) (a .b) (a .p) R in let e = (c .before .before .before .before .before .before .before .before .before .before .used-row2 .ensures (kindOf (a .kind) .use-p) (c .before .before .before .before .before .before .before .before .before .before .before .parameter-use .ensures ∙ ap (λ (x : ℕ). useCode (kindOf x .use-p)) (c .before .before .before .before .before .before .before .before .before .before .before .before .index4 .ensures))) in let l = R .fits .masks-length in omega arith
 
--- src/stepping.rt:57:9
 slice-read-apply-5 : tie.Need-slice-read-apply-5
 slice-read-apply-5 c =
     let a = c .before .before .before .before .before .before .before .before .before .before .before .before .before .before .before .before .before .before .before .before .before .before .args in
     let R = c .before .before .before .before .before .before .before .before .before .before .before .before .before .before .before .before .before .before .before .before .before .before .pre in
     let h = condition-in (a .width .now) (held (a .mask .now) (a .value .now)) (a .kind) (a .t) (a .a) (a .b) (a .p) R in let e = (c .before .before .before .before .before .before .before .before .before .before .before .used-row2 .ensures (kindOf (a .kind) .use-p) (c .before .before .before .before .before .before .before .before .before .before .before .before .parameter-use .ensures ∙ ap (λ (x : ℕ). useCode (kindOf x .use-p)) (c .before .before .before .before .before .before .before .before .before .before .before .before .before .index4 .ensures))) in let l = R .fits .masks-length in omega arith
 
--- src/stepping.rt:58:9
 mul-apply-6 : tie.Need-mul-apply-6
 mul-apply-6 c =
     let a = c .before .before .before .before .before .before .before .before .before .before .before .before .before .before .before .before .before .before .before .before .before .before .args in
     let R = c .before .before .before .before .before .before .before .before .before .before .before .before .before .before .before .before .before .before .before .before .before .before .pre in
     let h = condition-in (a .width .now) (held (a .mask .now) (a .value .now)) (a .kind) (a .t) (a .a) (a .b) (a .p) R in let e = (c .before .before .before .before .before .before .before .before .before .before .before .used-row2 .ensures (kindOf (a .kind) .use-p) (c .before .before .before .before .before .before .before .before .before .before .before .before .parameter-use .ensures ∙ ap (λ (x : ℕ). useCode (kindOf x .use-p)) (c .before .before .before .before .before .before .before .before .before .before .before .before .before .index4 .ensures))) in let l = R .fits .masks-length in omega arith
 
--- src/stepping.rt:58:9
 slice-read-apply-6 : tie.Need-slice-read-apply-6
 slice-read-apply-6 c =
     let a = c .before .before .before .before .before .before .before .before .before .before .before .before .before .before .before .before .before .before .before .before .before .before .before .args in
     let R = c .before .before .before .before .before .before .before .before .before .before .before .before .before .before .before .before .before .before .before .before .before .before .before .pre in
     let h = condition-in (a .width .now) (held (a .mask .now) (a .value .now)) (a .kind) (a .t) (a .a) (a .b) (a .p) R in let e = (c .before .before .before .before .before .before .before .before .before .before .before .before .used-row2 .ensures (kindOf (a .kind) .use-p) (c .before .before .before .before .before .before .before .before .before .before .before .before .before .parameter-use .ensures ∙ ap (λ (x : ℕ). useCode (kindOf x .use-p)) (c .before .before .before .before .before .before .before .before .before .before .before .before .before .before .index4 .ensures))) in let l = R .fits .values-length in omega arith
 
--- src/stepping.rt:48:9
 apply-requires : tie.Need-apply-requires
 apply-requires c κs =
     let a = c .before .before .before .before .before .before .before .before .before .before .before .before .before .before .before .before .before .before .before .before .before .before .before .args in
@@ -173,31 +138,24 @@ apply-requires c κs =
     (c .before .before .before .before .before .before .before .before .before .before .before .before .before .before .before .before .before .before .before .index .result) (c .before .before .before .before .before .before .before .before .before .before .before .before .before .before .before .before .before .before .index2 .result) (c .before .before .before .before .before .before .before .before .before .before .before .before .before .before .before .used-row .result) (c .before .before .before .before .before .before .before .before .before .before .before .before .used-row2 .result) (c .before .before .before .before .before .before .before .before .before .before .wide .result) (c .before .before .before .before .before .before .before .before .wide2 .result) (c .before .before .before .before .before .before .wide3 .result)
     (c .before .before .before .before .before .before .before .before .before .before .before .before .before .before .before .before .before .before .before .index .ensures) (c .before .before .before .before .before .before .before .before .before .before .before .before .before .before .before .before .before .before .index2 .ensures) (c .before .before .before .before .before .before .before .before .before .before .before .before .before .before .before .used-row .ensures (kindOf (a .kind) .use-b) (c .before .before .before .before .before .before .before .before .before .before .before .before .before .before .before .before .second-use .ensures ∙ ap (λ (x : ℕ). useCode (kindOf x .use-b)) (c .before .before .before .before .before .before .before .before .before .before .before .before .before .before .before .before .before .index3 .ensures))) (c .before .before .before .before .before .before .before .before .before .before .before .before .used-row2 .ensures (kindOf (a .kind) .use-p) (c .before .before .before .before .before .before .before .before .before .before .before .before .before .parameter-use .ensures ∙ ap (λ (x : ℕ). useCode (kindOf x .use-p)) (c .before .before .before .before .before .before .before .before .before .before .before .before .before .before .index4 .ensures))) (c .before .before .before .before .before .before .before .before .before .before .wide .ensures) (c .before .before .before .before .before .before .before .before .wide2 .ensures) (c .before .before .before .before .before .before .wide3 .ensures)
 
--- src/stepping.rt:61:5
 mul-mask : tie.Need-mul-mask
 mul-mask c = search needs
 
--- src/stepping.rt:61:5
 slice-write-mask : tie.Need-slice-write-mask
 slice-write-mask c = search needs
 
--- src/stepping.rt:62:5
 mul-value : tie.Need-mul-value
 mul-value c = search needs
 
--- src/stepping.rt:62:5
 slice-write-value : tie.Need-slice-write-value
 slice-write-value c = search needs
 
--- src/stepping.rt:28:1
 same-length : tie.Need-same-length
 same-length c = search needs
 
--- src/stepping.rt:28:1
 same-length-2 : tie.Need-same-length-2
 same-length-2 c = search needs
 
--- src/stepping.rt:28:1
 returns : tie.Need-returns
 returns c =
     let a = c .before .before .before .before .before .before .before .before .before .before .before .before .before .before .before .before .before .before .before .before .before .before .before .before .args in

@@ -1,6 +1,6 @@
+-- `tables::stepping::step_all` meets its contract. The invariant: the rows are those after the first i records. Assumes nothing.
 use borrow.Author.Needs.{needs}
 use native.Mathlib.Omega.{arith}
--- `tables::stepping::step_all` meets its contract. The invariant: the rows are those after the first i records. Assumes nothing.
 use mathlib.Core.Path.{_≡_, refl, sym, ap, _∙_, subst}
 use mathlib.Core.List.{List, [], _∷_}
 use Prim.Native.Nat.{ℕ, suc, _+_, _-_, _*_, _/_, _≤_}
@@ -11,9 +11,6 @@ use Rattle.tables.specs.Meant.{lent, held}
 use Rattle.tables.proofs.StretchLaws.{at-fits, turn-ready, turn-next}
 use Rattle.tables.proofs.stepping.step_all.Statement.{statement}
 use Rattle.tables.proofs.stepping.step_all.Tie as tie
-use Rattle.tables.proofs.stepping.step_all.Reads as reads
-use Rattle.tables.proofs.stepping.step_all.Lts as lts
-use Rattle.tables.proofs.stepping.step.Reads as step-reads
 
 abbrev Inv-loop : tie.InvT-loop
 Inv-loop width mask₀ value₀ words n i₀ mask value i =
@@ -22,87 +19,67 @@ Inv-loop width mask₀ value₀ words n i₀ mask value i =
 abbrev μ-loop : tie.MeasureT-loop
 μ-loop width mask₀ value₀ words n i₀ mask value i = length words / 5 - i
 
--- src/stepping.rt:72:5
 loop-holds : tie.Need-loop-holds Inv-loop μ-loop
 unfolding after
 loop-holds c = (refl, refl, omega arith, refl)
 
--- src/stepping.rt:73:17
 mul-k : tie.Need-mul-k Inv-loop μ-loop
 mul-k c = omega arith
 
--- src/stepping.rt:78:13
 mul-step : tie.Need-mul-step Inv-loop μ-loop
 mul-step c = omega arith
 
--- src/stepping.rt:78:13
 shared-slice-read-step : tie.Need-shared-slice-read-step Inv-loop μ-loop
 shared-slice-read-step c = omega arith
 
--- src/stepping.rt:79:19
 add-step : tie.Need-add-step Inv-loop μ-loop
 add-step c = omega arith
 
--- src/stepping.rt:79:13
 mul-step-2 : tie.Need-mul-step-2 Inv-loop μ-loop
 mul-step-2 c = omega arith
 
--- src/stepping.rt:79:13
 shared-slice-read-step-2 : tie.Need-shared-slice-read-step-2 Inv-loop μ-loop
 shared-slice-read-step-2 c = omega arith
 
--- src/stepping.rt:80:19
 add-step-2 : tie.Need-add-step-2 Inv-loop μ-loop
 add-step-2 c = omega arith
 
--- src/stepping.rt:80:13
 mul-step-3 : tie.Need-mul-step-3 Inv-loop μ-loop
 mul-step-3 c = omega arith
 
--- src/stepping.rt:80:13
 shared-slice-read-step-3 : tie.Need-shared-slice-read-step-3 Inv-loop μ-loop
 shared-slice-read-step-3 c = omega arith
 
--- src/stepping.rt:81:19
 add-step-3 : tie.Need-add-step-3 Inv-loop μ-loop
 add-step-3 c = omega arith
 
--- src/stepping.rt:81:13
 mul-step-4 : tie.Need-mul-step-4 Inv-loop μ-loop
 mul-step-4 c = omega arith
 
--- src/stepping.rt:81:13
 shared-slice-read-step-4 : tie.Need-shared-slice-read-step-4 Inv-loop μ-loop
 shared-slice-read-step-4 c = omega arith
 
--- src/stepping.rt:82:19
 add-step-4 : tie.Need-add-step-4 Inv-loop μ-loop
 add-step-4 c = omega arith
 
--- src/stepping.rt:82:13
 mul-step-5 : tie.Need-mul-step-5 Inv-loop μ-loop
 mul-step-5 c = omega arith
 
--- src/stepping.rt:82:13
 shared-slice-read-step-5 : tie.Need-shared-slice-read-step-5 Inv-loop μ-loop
 shared-slice-read-step-5 c = omega arith
 
--- src/stepping.rt:74:9
 step-requires : tie.Need-step-requires Inv-loop μ-loop
 step-requires c κs =
     let a = c .before .before .before .before .before .before .before .before .before .before .before .before .before .args in
     let l = c .before .before .before .before .before .before .before .before .loop in
     turn-ready (a .width .now) (a .words .now) (held (a .mask .now) (a .value .now)) (c .before .before .before .before .before .before .before .before .before .before .before .before .before .pre) (l .i) (c .before .before .before .before .before .before .before .loop-test .taken) (held (l .mask) (l .value)) (l .inv .3)
 
--- src/stepping.rt:84:9
 add-i : tie.Need-add-i Inv-loop μ-loop
 add-i c = omega arith
 
--- src/stepping.rt:72:5
 loop-less : tie.Need-loop-less Inv-loop μ-loop
 loop-less c = omega arith
 
--- src/stepping.rt:72:5
 loop-again : tie.Need-loop-again Inv-loop μ-loop
 loop-again c =
     let a = c .before .before .before .before .before .before .before .before .before .before .before .before .before .before .before .before .before .before .args in
@@ -112,15 +89,12 @@ loop-again c =
     let f = at-fits (a .width .now) (a .words .now) (held (a .mask .now) (a .value .now)) R (l .i + 1) _ n in
     (f .masks-length ∙ sym (R .fits .masks-length), f .values-length ∙ sym (R .fits .values-length), omega arith, n)
 
--- src/stepping.rt:66:1
 same-length : tie.Need-same-length Inv-loop μ-loop
 same-length c = search needs
 
--- src/stepping.rt:66:1
 same-length-2 : tie.Need-same-length-2 Inv-loop μ-loop
 same-length-2 c = search needs
 
--- src/stepping.rt:66:1
 returns : tie.Need-returns Inv-loop μ-loop
 returns c =
     let h : c .before .loop .i ≡ length (c .before .before .before .before .before .before .args .words .now) / 5 = omega arith in
