@@ -1,0 +1,96 @@
+-- The names of the operations: each rule is one computed test of all kinds. Assumes nothing.
+--   kind-passes       a test of all kinds holds of the kind that a number finds
+--   name-known, name-number   the name of a known kind is a name, and that kind's
+--   name-back         the kind that a name finds has that name
+--   clean             no byte of a word is a separator;   name-clean   a name is clean
+use mathlib.Core.Path.{_≡_, refl, sym, ap, _∙_}
+use mathlib.Core.Bool.{Bool, true, false, cond, _&&_, _||_}
+use mathlib.Core.Logic.{inl, inr}
+use mathlib.Core.List.{List, [], _∷_}
+use Prim.Native.Nat.{ℕ}
+use lib.Dec.{T, ltb, eqb, eqb→eq}
+use Rattle.bits.proofs.Bools.{T-left, T-right}
+use Rattle.operations.specs.Kind.{Kind}
+use Rattle.operations.specs.Moves.{opCopy, opNot, opAnd, opOr, opXor, opShl, opLshr, opAshr, opRotl, opExtract, opConcat, opZext, opSext}
+use Rattle.operations.specs.Arithmetic.{opAdd, opSub, opNeg, opMul, opEq, opUlt, opSlt, opIte}
+use Rattle.operations.specs.Kinds.{kinds, numbered, find, isKind, kindOf}
+use Rattle.grammar.specs.Lists.{allOf, same}
+use Rattle.grammar.specs.Line.{isName, numberNamed}
+use Rattle.grammar.proofs.Tests.{decide, or-right, when-true, when-false, same→eq}
+
+-- ---- a kind found in a list
+
+found : (p : Kind → Bool) (n : ℕ) (ks : List Kind) → T (numbered n ks) → T (allOf p ks) → T (p (find n ks)) × (find n ks .number ≡ n)
+unfolding allOf
+found p n [] t u = absurd t
+found p n (k ∷ ks) t u = go (eqb (k .number) n) refl t (λ v. found p n ks v (T-right (p k) (allOf p ks) u))
+  where
+    go : (b : Bool) → eqb (k .number) n ≡ b → T (b || numbered n ks) → (T (numbered n ks) → T (p (find n ks)) × (find n ks .number ≡ n))
+        → T (p (cond b k (find n ks))) × (cond b k (find n ks) .number ≡ n)
+    go true e v r = (T-left (p k) (allOf p ks) u, eqb→eq (k .number) n (rw e tt))
+    go false e v r = r v
+
+pub kind-passes : (p : Kind → Bool) → T (allOf p kinds) → (n : ℕ) → T (isKind n) → T (p (kindOf n)) × (kindOf n .number ≡ n)
+unfolding isKind kindOf
+kind-passes p u n t = found p n kinds t u
+
+-- the kind that a name finds, with a test that all kinds pass
+pub record Named (p : Kind → Bool) (f : List ℕ) (ks : List Kind) : Type 0 where
+  pub kind : Kind
+  pub passes : T (p kind)
+  pub name-is : kind .name ≡ f
+  pub number-is : kind .number ≡ numberNamed f ks
+
+pub named : (p : Kind → Bool) (f : List ℕ) (ks : List Kind) → T (isName f ks) → T (allOf p ks) → Named p f ks
+unfolding allOf
+named p f [] t u = absurd t
+named p f (k ∷ ks) t u =
+    elim (decide (same f (k .name))) [
+      | inl v ↦
+          record {
+            kind = k;
+            passes = T-left (p k) (allOf p ks) u;
+            name-is = sym (same→eq f (k .name) v);
+            number-is = sym (when-true (same f (k .name)) (k .number) (numberNamed f ks) v);
+          }
+      | inr v ↦
+          let r = named p f ks (or-right (same f (k .name)) (isName f ks) t v) (T-right (p k) (allOf p ks) u) in
+          record { kind = r .kind; passes = r .passes; name-is = r .name-is; number-is = r .number-is ∙ sym (when-false (same f (k .name)) (k .number) (numberNamed f ks) v) }
+    ]
+
+-- ---- the kinds of 01
+
+abbrev pub clean : List ℕ → Bool
+clean f = allOf (λ b. ltb 32 b) f
+
+abbrev wellNamed : Kind → Bool
+wellNamed k = isName (k .name) kinds && eqb (numberNamed (k .name) kinds) (k .number) && same (kindOf (k .number) .name) (k .name) && clean (k .name)
+
+names-right : T (allOf wellNamed kinds)
+unfolding allOf same kinds kindOf opCopy opNot opAnd opOr opXor opShl opLshr opAshr opRotl opExtract opConcat opZext opSext opAdd opSub opNeg opMul opEq opUlt opSlt opIte
+names-right = tt
+
+-- the four parts of the test
+parts : (k : Kind) → T (wellNamed k) → T (isName (k .name) kinds) × (numberNamed (k .name) kinds ≡ k .number) × (kindOf (k .number) .name ≡ k .name) × T (clean (k .name))
+parts k t =
+    let a = isName (k .name) kinds in
+    let b = eqb (numberNamed (k .name) kinds) (k .number) in
+    let c = same (kindOf (k .number) .name) (k .name) in
+    let t₃ = T-left (a && b && c) (clean (k .name)) t in
+    let t₂ = T-left (a && b) c t₃ in
+    (T-left a b t₂, eqb→eq (numberNamed (k .name) kinds) (k .number) (T-right a b t₂), same→eq (kindOf (k .number) .name) (k .name) (T-right (a && b) c t₃), T-right (a && b && c) (clean (k .name)) t)
+
+module _ (n : ℕ) (known : T (isKind n)) where
+  pub name-known : T (isName (kindOf n .name) kinds)
+  name-known = parts (kindOf n) (kind-passes wellNamed names-right n known .0) .0
+
+  pub name-number : numberNamed (kindOf n .name) kinds ≡ n
+  name-number = let h = kind-passes wellNamed names-right n known in parts (kindOf n) (h .0) .1 ∙ h .1
+
+  pub name-clean : T (clean (kindOf n .name))
+  name-clean = parts (kindOf n) (kind-passes wellNamed names-right n known .0) .3
+
+pub name-back : (f : List ℕ) → T (isName f kinds) → kindOf (numberNamed f kinds) .name ≡ f
+name-back f t =
+    let h = named wellNamed f kinds t names-right in
+    ap (λ (n : ℕ). kindOf n .name) (sym (h .number-is)) ∙ parts (h .kind) (h .passes) .2 ∙ h .name-is

@@ -1,0 +1,120 @@
+-- The text of a table that passed the checks is no longer than size. Assumes nothing.
+--   row-length, record-length   a row line has at most 44 bytes, a record line at most 24
+--   text-size                   the text has at most 44 for each row and 24 for each record
+use mathlib.Core.Path.{_≡_, refl, sym, ap, _∙_}
+use mathlib.Core.Bool.{Bool}
+use mathlib.Core.List.{List, [], _∷_, _++_, map, append-assoc}
+use Prim.Native.Nat.{ℕ, zero, suc, _+_, _*_, _≤_, _<_}
+use native.Mathlib.Nat.{mul-suc}
+use native.Mathlib.Omega.{arith}
+use lib.Dec.{T, leb, leb→le}
+use lib.ListN.{length, drop, length-append}
+use Rattle.operations.specs.Kind.{Use, asRow, asNumber, unused, Kind}
+use Rattle.operations.specs.Moves.{opCopy, opNot, opAnd, opOr, opXor, opShl, opLshr, opAshr, opRotl, opExtract, opConcat, opZext, opSext}
+use Rattle.operations.specs.Arithmetic.{opAdd, opSub, opNeg, opMul, opEq, opUlt, opSlt, opIte}
+use Rattle.operations.specs.Kinds.{kinds}
+use Rattle.operations.specs.Record.{kindWord, targetWord, firstWord, secondWord, parameterWord, kindIn}
+use Rattle.tables.specs.Limits.{rowBytes, recordBytes}
+use Rattle.tables.specs.Table.{Table, recordCount, recordOf}
+use Rattle.tables.specs.Checks.{sizeBound}
+use Rattle.tables.specs.Accepted.{TablePassed}
+use Rattle.grammar.specs.Lists.{allOf, listed}
+use Rattle.grammar.specs.Words.{lf, tab, rowWord, opWord, lockWord}
+use Rattle.grammar.specs.Print.{decimal, lettersOf, LineRow, Line, rowLine, recordLine, fieldsOf, joined, lineText, linesText, lineRow, rowLines, recordLines, tableLines, textOf}
+use Rattle.grammar.proofs.Decimals.{length-small, length-two, length-three}
+use Rattle.grammar.proofs.Letters.{letters-length}
+use Rattle.grammar.proofs.Vectors.{RowFits}
+use Rattle.grammar.proofs.Names.{kind-passes}
+use Rattle.grammar.proofs.WordUses.{WordFits, words-fit, words-after-kind, record-length, row-fits}
+
+-- ---- a line: each field and the byte after it
+
+total : List (List ℕ) → ℕ
+total [] = 0
+total (p ∷ ps) = suc (length p) + total ps
+
+line-length : (p : List ℕ) (ps : List (List ℕ)) → length (joined tab (p ∷ ps) ++ lf ∷ []) ≡ total (p ∷ ps)
+unfolding joined total
+line-length p [] = length-append p (lf ∷ []) ∙ omega arith
+line-length p (q ∷ ps) =
+    ap length (append-assoc p (tab ∷ joined tab (q ∷ ps)) (lf ∷ [])) ∙ length-append p (tab ∷ (joined tab (q ∷ ps) ++ lf ∷ [])) ∙ omega (arith, line-length q ps)
+
+lock-length : (l : ℕ) → l ≤ 1 → length (lockWord l) ≤ 6
+lock-length zero h = omega arith
+lock-length (suc zero) h = omega arith
+lock-length (suc (suc l)) h = absurd (omega arith)
+
+row-length : (r : LineRow) → RowFits r → length (lineText (rowLine r)) ≤ rowBytes
+unfolding lineText fieldsOf total
+row-length r fits =
+    omega (
+      arith,
+      line-length rowWord (lockWord (r .lock) ∷ lettersOf (r .vector .width) (r .vector .mask) (r .vector .value) ∷ []),
+      lock-length (r .lock) (fits .lock-most),
+      letters-length (r .vector .width) (r .vector .mask) (r .vector .value),
+      fits .width-most,
+    )
+
+-- the digits that a word can have, and the byte after them
+abbrev room : Use → ℕ
+room asRow = 4
+room asNumber = 3
+room unused = 2
+
+word-length : (n : ℕ) → n ≤ 256 → (u : Use) (w : ℕ) → WordFits u n w → suc (length (decimal w)) ≤ room u
+word-length n h asRow w f = omega (arith, length-three w (omega arith))
+word-length n h asNumber w f = omega (arith, length-two w (omega arith))
+word-length n h unused w f = omega (arith, length-small w (omega arith))
+
+-- no kind's line is longer: one computed test of all kinds
+abbrev longest : Kind → ℕ
+longest k = 3 + (length (k .name) + 1) + room asRow + room (k .use-a) + room (k .use-b) + room (k .use-p)
+
+abbrev lineFits : Kind → Bool
+lineFits k = leb (longest k) recordBytes
+
+kinds-fit : T (allOf lineFits kinds)
+unfolding allOf kinds opCopy opNot opAnd opOr opXor opShl opLshr opAshr opRotl opExtract opConcat opZext opSext opAdd opSub opNeg opMul opEq opUlt opSlt opIte
+kinds-fit = tt
+
+record-bytes : (t : Table) → TablePassed t → (i : ℕ) → i < recordCount t → length (lineText (recordLine (recordOf t i))) ≤ recordBytes
+unfolding lineText fieldsOf total
+record-bytes t P i h =
+    let words = recordOf t i in
+    let n = length (t .widths) in
+    let f = words-fit (t .widths) words (P .record-passed i h) in
+    let k = kind-passes lineFits kinds-fit (kindWord words) (P .record-passed i h .kind-known) .0 in
+    omega (
+      arith,
+      line-length opWord (kindIn words .name ∷ map decimal (drop 1 words)),
+      ap (λ (l : List ℕ). total (map decimal l)) (words-after-kind words (record-length t P i h)),
+      leb→le (longest (kindIn words)) recordBytes k,
+      word-length n (P .rows-most) asRow (targetWord words) (f .target),
+      word-length n (P .rows-most) (kindIn words .use-a) (firstWord words) (f .first),
+      word-length n (P .rows-most) (kindIn words .use-b) (secondWord words) (f .second),
+      word-length n (P .rows-most) (kindIn words .use-p) (parameterWord words) (f .parameter),
+    )
+
+-- ---- a text
+
+pub lines-append : (ls ms : List Line) → linesText (ls ++ ms) ≡ linesText ls ++ linesText ms
+unfolding linesText
+lines-append [] ms = refl
+lines-append (l ∷ ls) ms = ap (λ (x : List ℕ). lineText l ++ x) (lines-append ls ms) ∙ sym (append-assoc (lineText l) (linesText ls) (linesText ms))
+
+lines-length : (c : ℕ) (f : ℕ → Line) (i n : ℕ) → ((j : ℕ) → j < i + n → length (lineText (f j)) ≤ c) → length (linesText (listed f i n)) ≤ c * n
+unfolding linesText listed
+lines-length c f i zero h = omega arith
+lines-length c f i (suc n) h =
+    omega (arith, length-append (lineText (f i)) (linesText (listed f (suc i) n)), h i (omega arith), lines-length c f (suc i) n (λ j l. h j (omega arith)), mul-suc c n)
+
+pub text-size : (t : Table) → TablePassed t → length (textOf t) ≤ sizeBound t
+unfolding textOf tableLines
+text-size t P =
+    omega (
+      arith,
+      ap length (lines-append (rowLines t) (recordLines t)),
+      length-append (linesText (rowLines t)) (linesText (recordLines t)),
+      lines-length rowBytes (λ i. rowLine (lineRow t i)) 0 (length (t .widths)) (λ j h. row-length (lineRow t j) (row-fits t P j (omega arith))),
+      lines-length recordBytes (λ i. recordLine (recordOf t i)) 0 (recordCount t) (λ j h. record-bytes t P j (omega arith)),
+    )

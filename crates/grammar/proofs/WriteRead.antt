@@ -1,0 +1,106 @@
+-- The text of a table that passed the checks is in the grammar and holds that table. Assumes nothing.
+--   next-line    the lines of a text, by its first line
+--   text-lines   the lines of the text are those of the table;   text-good   none is bad
+--   text-table   the table that the text holds is that table
+use mathlib.Core.Path.{_≡_, refl, ap, ap₂, _∙_}
+use mathlib.Core.Bool.{false, not}
+use mathlib.Core.List.{List, [], _∷_, map}
+use Prim.Native.Nat.{ℕ, _+_, _*_, _≤_}
+use native.Mathlib.Omega.{arith}
+use lib.Dec.{T, ltb, eqb, ltb→lt}
+use lib.ListN.{length, getD}
+use lib.Seq.{append-snoc}
+use Rattle.vectors.specs.Lists.{Each}
+use Rattle.operations.specs.Limits.{recordWords}
+use Rattle.tables.specs.Table.{Table, recordCount, recordOf}
+use Rattle.tables.specs.Accepted.{TablePassed}
+use Rattle.grammar.specs.Lists.{allOf, listed}
+use Rattle.grammar.specs.Words.{lf, tab, edition1}
+use Rattle.grammar.specs.Print.{LineRow, Line, rowLine, recordLine, outside, fieldsOf, joined, lineText, linesText, lineRow, rowLines, recordLines, tableLines, textOf}
+use Rattle.grammar.specs.Cut.{pieces}
+use Rattle.grammar.specs.Line.{lineOf}
+use Rattle.grammar.specs.Lines.{linesOf, linesIn, firstBad, rowsIn, wordsIn, tableIn, tableRead}
+use Rattle.grammar.proofs.Tests.{ne→neqb, all-imp}
+use Rattle.grammar.proofs.Cuts.{without, pieces-cut, pieces-joined, by-first, all-joined}
+use Rattle.grammar.proofs.Names.{clean}
+use Rattle.grammar.proofs.LineTrips.{LineFits, line-trip, fields-clean}
+use Rattle.grammar.proofs.Listed.{each-append, listed-each, listed-ext, listed-getD, listed-map, bad-none, rows-listed, words-after, words-listed}
+use Rattle.grammar.proofs.WordUses.{words-length, row-fits, record-fits}
+
+-- ---- lines that fit are read from their text
+
+clean-without : (c : ℕ) → c ≤ 32 → (f : List ℕ) → T (clean f) → T (without c f)
+clean-without c h f t = all-imp (λ b. ltb 32 b) (λ b. not (eqb b c)) (λ b u. ne→neqb b c (λ e. omega (arith, ltb→lt 32 b u))) f t
+
+cut-fields : (l : Line) → LineFits l → T (allOf (without tab) (fieldsOf l)) → pieces tab (joined tab (fieldsOf l)) ≡ fieldsOf l
+unfolding fieldsOf
+cut-fields (rowLine r) fits t = pieces-joined tab _ _ t
+cut-fields (recordLine ws) fits t = pieces-joined tab _ _ t
+cut-fields outside fits t = absurd fits
+
+fields-cut : (l : Line) → LineFits l → pieces tab (joined tab (fieldsOf l)) ≡ fieldsOf l
+fields-cut l fits = cut-fields l fits (all-imp clean (without tab) (clean-without tab (omega arith)) (fieldsOf l) (fields-clean l fits))
+
+no-end : (l : Line) → LineFits l → T (without lf (joined tab (fieldsOf l)))
+no-end l fits = all-joined (λ b. not (eqb b lf)) tab tt (fieldsOf l) (all-imp clean (without lf) (clean-without lf (omega arith)) (fieldsOf l) (fields-clean l fits))
+
+pub next-line : (p : List ℕ) (text : List ℕ) → linesOf edition1 (p ∷ pieces lf text) ≡ lineOf edition1 (pieces tab p) ∷ linesOf edition1 (pieces lf text)
+unfolding linesOf
+next-line p text = by-first (λ (ps : List (List ℕ)). linesOf edition1 (p ∷ ps) ≡ lineOf edition1 (pieces tab p) ∷ linesOf edition1 ps) (λ q qs. refl) lf text
+
+lines-read : (ls : List Line) → Each LineFits ls → linesIn (linesText ls) ≡ ls
+unfolding linesIn linesText lineText
+lines-read [] h = unfold linesOf pieces in refl
+lines-read (l ∷ ls) h =
+    ap (λ (x : List ℕ). linesOf edition1 (pieces lf x)) (append-snoc (joined tab (fieldsOf l)) lf (linesText ls))
+    ∙ ap (linesOf edition1) (pieces-cut lf (joined tab (fieldsOf l)) (linesText ls) (no-end l (h .0)))
+    ∙ next-line (joined tab (fieldsOf l)) (linesText ls)
+    ∙ ap₂ {C = List Line} _∷_ (ap (lineOf edition1) (fields-cut l (h .0)) ∙ line-trip l (h .0)) (lines-read ls (h .1))
+
+-- ---- a table that passed
+
+module _ (t : Table) (P : TablePassed t) where
+  lines-fit : Each LineFits (tableLines t)
+  unfolding tableLines
+  lines-fit =
+      each-append LineFits (rowLines t) (recordLines t)
+      (listed-each LineFits (λ i. rowLine (lineRow t i)) 0 (length (t .widths)) (λ j h. row-fits t P j (omega arith)))
+      (listed-each LineFits (λ i. recordLine (recordOf t i)) 0 (recordCount t) (λ j h. record-fits t P j (omega arith)))
+
+  pub text-lines : linesIn (textOf t) ≡ tableLines t
+  unfolding textOf
+  text-lines = lines-read (tableLines t) lines-fit
+
+  pub text-good : firstBad false 1 (linesIn (textOf t)) ≡ 0
+  unfolding tableLines
+  text-good = ap (firstBad false 1) text-lines ∙ bad-none (lineRow t) (recordOf t) 1 (length (t .widths)) (recordCount t)
+
+  rows-are : rowsIn (linesIn (textOf t)) ≡ listed (lineRow t) 0 (length (t .widths))
+  unfolding tableLines
+  rows-are = ap rowsIn text-lines ∙ rows-listed (lineRow t) (recordOf t) (recordCount t) 0 (length (t .widths))
+
+  words-are : wordsIn (linesIn (textOf t)) ≡ t .words
+  unfolding tableLines
+  words-are =
+      let e : recordWords * recordCount t ≡ recordWords * (0 + recordCount t) = omega arith in
+      ap wordsIn text-lines
+      ∙ words-after (lineRow t) (recordLines t) 0 (length (t .widths))
+      ∙ words-listed recordWords (t .words) 0 (recordCount t) (words-length t P ∙ e)
+
+  column : (f : LineRow → ℕ) (l : List ℕ) → length l ≡ length (t .widths) → ((i : ℕ) → f (lineRow t i) ≡ getD l i 0) → map f (rowsIn (linesIn (textOf t))) ≡ l
+  column f l e h =
+      ap (map f) rows-are
+      ∙ listed-map f (lineRow t) 0 (length (t .widths))
+      ∙ listed-ext (λ i. f (lineRow t i)) (λ i. getD l i 0) h 0 (length (t .widths))
+      ∙ listed-getD l 0 0 (length (t .widths)) (omega (arith, e))
+
+  pub text-table : tableRead (textOf t) ≡ t
+  unfolding tableIn
+  text-table =
+      λ i. record {
+        widths = column (λ r. r .vector .width) (t .widths) refl (λ j. refl) i;
+        locks = column (λ r. r .lock) (t .locks) (P .locks-length) (λ j. refl) i;
+        masks = column (λ r. r .vector .mask) (t .masks) (P .masks-length) (λ j. refl) i;
+        values = column (λ r. r .vector .value) (t .values) (P .values-length) (λ j. refl) i;
+        words = words-are i;
+      }

@@ -1,0 +1,7 @@
+pub mod Limits
+pub mod Lists
+pub mod Words
+pub mod Print
+pub mod Cut
+pub mod Line
+pub mod Lines

@@ -1,0 +1,58 @@
+-- The lines of a text and what they hold (01, "Text" and "Who can cause a refusal").
+--   linesOf e ps          the lines of a text cut at LF;   linesIn text   the lines of a text
+--   firstBad later n ls   the number of the first bad line, counted on from n, or 0 where there is none
+--   rowsIn, wordsIn       the rows and the record words of lines
+--   tableIn ls            the table that lines hold;   tableRead text   the table that a text holds
+use mathlib.Core.Bool.{Bool, true, false, cond}
+use mathlib.Core.List.{List, [], _∷_, _++_, map}
+use Prim.Native.Nat.{ℕ, suc}
+use Rattle.tables.specs.Table.{Table}
+use Rattle.grammar.specs.Words.{lf, tab, Edition, edition1}
+use Rattle.grammar.specs.Print.{LineRow, Line, rowLine, recordLine, outside}
+use Rattle.grammar.specs.Cut.{pieces}
+use Rattle.grammar.specs.Line.{lineOf}
+
+abbrev pub isEmpty : List ℕ → Bool
+isEmpty [] = true
+isEmpty (b ∷ bs) = false
+
+-- What stands after the last LF is a line outside the grammar, unless it is empty: "for a missing LF the last line".
+unfoldable pub linesOf : Edition → List (List ℕ) → List Line
+linesOf e [] = []
+linesOf e (p ∷ []) = cond (isEmpty p) [] (outside ∷ [])
+linesOf e (p ∷ q ∷ ps) = lineOf e (pieces tab p) ∷ linesOf e (q ∷ ps)
+
+unfoldable pub linesIn : List ℕ → List Line
+linesIn text = linesOf edition1 (pieces lf text)
+
+-- "a line outside the grammar, a row line after a record line, or no final LF"; later: a record line came before
+unfoldable pub firstBad : Bool → ℕ → List Line → ℕ
+firstBad later n [] = 0
+firstBad later n (outside ∷ ls) = n
+firstBad later n (recordLine words ∷ ls) = firstBad true (suc n) ls
+firstBad later n (rowLine r ∷ ls) = cond later n (firstBad later (suc n) ls)
+
+unfoldable pub rowsIn : List Line → List LineRow
+rowsIn [] = []
+rowsIn (rowLine r ∷ ls) = r ∷ rowsIn ls
+rowsIn (recordLine words ∷ ls) = rowsIn ls
+rowsIn (outside ∷ ls) = rowsIn ls
+
+unfoldable pub wordsIn : List Line → List ℕ
+wordsIn [] = []
+wordsIn (rowLine r ∷ ls) = wordsIn ls
+wordsIn (recordLine words ∷ ls) = words ++ wordsIn ls
+wordsIn (outside ∷ ls) = wordsIn ls
+
+unfoldable pub tableIn : List Line → Table
+tableIn ls =
+    record {
+      widths = map (λ (r : LineRow). r .vector .width) (rowsIn ls);
+      locks = map (λ (r : LineRow). r .lock) (rowsIn ls);
+      masks = map (λ (r : LineRow). r .vector .mask) (rowsIn ls);
+      values = map (λ (r : LineRow). r .vector .value) (rowsIn ls);
+      words = wordsIn ls;
+    }
+
+abbrev pub tableRead : List ℕ → Table
+tableRead text = tableIn (linesIn text)

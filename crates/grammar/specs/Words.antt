@@ -1,0 +1,77 @@
+-- The words, letters and separators of the text, each in one place (01, "Text").
+--   bytes s            the bytes of a quoted word
+--   lf, tab            the byte that ends a line, and the one that parts its fields
+--   rowWord, opWord    the first field of a row line and of a record line;   lockWord l   the second of a row line
+--   zeroByte           the byte of the digit 0
+--   Alphabet           the letters that stand for 0, for 1 and for X;   threeLetters   those of 01
+--   Edition            what a reader goes by: letters, operations, and how many numbers a record line has;   edition1   that of 01
+-- Edition 1 has no header line: textOf (Print) begins with the rows, and linesIn (Calls) reads every text by edition1.
+use Prim.Native.Nat.{ℕ, _-_}
+use Prim.Native.Char.{code}
+use Prim.Native.String as S
+use mathlib.Core.Bool.{cond}
+use mathlib.Core.List.{List, [], _∷_}
+use lib.Dec.{eqb}
+use Rattle.operations.specs.Limits.{recordWords}
+use Rattle.operations.specs.Kind.{Kind}
+use Rattle.operations.specs.Kinds.{kinds}
+
+abbrev pub bytes : S.String → List ℕ
+bytes S.String.[] = []
+bytes (S._∷_ c s) = code c ∷ bytes s
+
+-- "Lines end in LF (byte 10), fields are parted by one tab."
+abbrev pub lf : ℕ
+lf = 10
+
+abbrev pub tab : ℕ
+tab = 9
+
+abbrev pub rowWord : List ℕ
+rowWord = bytes "row"
+
+abbrev pub opWord : List ℕ
+opWord = bytes "op"
+
+abbrev pub openWord : List ℕ
+openWord = bytes "open"
+
+abbrev pub lockedWord : List ℕ
+lockedWord = bytes "locked"
+
+-- lock: 0 open, 1 locked
+abbrev pub lockWord : ℕ → List ℕ
+lockWord l = cond (eqb l 1) lockedWord openWord
+
+abbrev pub zeroByte : ℕ
+zeroByte = 48
+
+-- ---- letters
+
+abbrev pub letter0 : ℕ
+letter0 = 48
+
+abbrev pub letter1 : ℕ
+letter1 = 49
+
+abbrev pub letterX : ℕ
+letterX = 88
+
+pub record Alphabet : Type 0 where
+  pub zeros : List ℕ
+  pub ones : List ℕ
+  pub unknowns : List ℕ
+
+abbrev pub threeLetters : Alphabet
+threeLetters = record { zeros = letter0 ∷ []; ones = letter1 ∷ []; unknowns = letterX ∷ [] }
+
+-- ---- editions
+
+pub record Edition : Type 0 where
+  pub letters : Alphabet
+  pub operations : List Kind
+  pub numbers : ℕ
+
+-- every word of a record but the kind is a number of its line
+abbrev pub edition1 : Edition
+edition1 = record { letters = threeLetters; operations = kinds; numbers = recordWords - 1 }
