@@ -1,0 +1,66 @@
+-- Writing a line: its parts in the order in which they are put. Assumes nothing.
+--   lock-word, open-word        the word of a lock
+--   row-begin, record-begin     a line, by its parts
+use mathlib.Core.Path.{_≡_, sym, ap}
+use mathlib.Core.Bool.{Bool, cond}
+use mathlib.Core.List.{List, [], _∷_, _++_, append-assoc}
+use Prim.Native.Nat.{ℕ}
+use borrow.Author.Tests.{eq-eqb, ne-eqb}
+use Rattle.vectors.specs.Row.{row}
+use Rattle.operations.specs.Kinds.{kindOf}
+use Rattle.grammar.specs.Words.{lf, tab, openWord, lockedWord, lockWord}
+use Rattle.grammar.specs.Print.{decimal, lettersOf, rowLine, recordLine, fieldsOf, joined, lineText}
+use Rattle.lines.proofs.Puts.{Writing, begin}
+
+-- ---- a row line
+
+pub lock-word : (l : ℕ) → l ≡ 1 → lockWord l ≡ lockedWord
+lock-word l e = ap (λ (t : Bool). cond t lockedWord openWord) (eq-eqb l 1 e)
+
+pub open-word : (l : ℕ) → (l ≡ 1 → ⊥) → lockWord l ≡ openWord
+open-word l e = ap (λ (t : Bool). cond t lockedWord openWord) (ne-eqb l 1 e)
+
+module _ (lock w m v : ℕ) where
+  abbrev pub rowText : List ℕ
+  rowText = lineText (rowLine (record { lock = lock; vector = row w m v }))
+
+  abbrev pub after-tab : List ℕ
+  after-tab = lettersOf w m v ++ lf ∷ []
+
+  abbrev pub after-word : List ℕ
+  after-word = lockWord lock ++ tab ∷ after-tab
+
+  row-whole : 114 ∷ 111 ∷ 119 ∷ tab ∷ after-word ≡ rowText
+  unfolding lineText fieldsOf joined
+  row-whole = ap {B = List ℕ} (λ (x : List ℕ). 114 ∷ 111 ∷ 119 ∷ tab ∷ x) (sym (append-assoc (lockWord lock) (tab ∷ lettersOf w m v) (lf ∷ [])))
+
+  pub row-begin : (old : List ℕ) (at : ℕ) → Writing old at rowText old at (114 ∷ 111 ∷ 119 ∷ tab ∷ after-word)
+  row-begin old at = begin old at rowText (114 ∷ 111 ∷ 119 ∷ tab ∷ after-word) row-whole
+
+-- ---- a record line
+
+module _ (k t a b p : ℕ) where
+  abbrev pub recordText : List ℕ
+  recordText = lineText (recordLine (k ∷ t ∷ a ∷ b ∷ p ∷ []))
+
+  abbrev pub after-b : List ℕ
+  after-b = (tab ∷ decimal p) ++ lf ∷ []
+
+  abbrev pub after-a : List ℕ
+  after-a = (tab ∷ decimal b) ++ after-b
+
+  abbrev pub after-t : List ℕ
+  after-t = (tab ∷ decimal a) ++ after-a
+
+  abbrev pub after-name : List ℕ
+  after-name = (tab ∷ decimal t) ++ after-t
+
+  abbrev pub after-op : List ℕ
+  after-op = kindOf k .name ++ after-name
+
+  record-whole : 111 ∷ 112 ∷ tab ∷ after-op ≡ recordText
+  unfolding lineText fieldsOf joined
+  record-whole = simp append-assoc
+
+  pub record-begin : (old : List ℕ) (at : ℕ) → Writing old at recordText old at (111 ∷ 112 ∷ tab ∷ after-op)
+  record-begin old at = begin old at recordText (111 ∷ 112 ∷ tab ∷ after-op) record-whole

@@ -1,0 +1,149 @@
+-- Reading a vector: what each way out of the loop has to show. Assumes nothing.
+--   mask-one .. letter-x               one letter
+--   too-short, too-long, no-letter     the ways out before the end
+--   So-far, begin, more, done          the loop
+--   vector-is, no-vector               what a caller learns
+use mathlib.Core.Path.{_≡_, refl, sym, ap, ap₂, _∙_, subst}
+use mathlib.Core.Bool.{Bool, true, false, _||_}
+use mathlib.Core.Logic.{inl, inr}
+use mathlib.Core.List.{List, [], _∷_}
+use Prim.Native.Nat.{ℕ, suc, _+_, _*_, _^_, _≤_, _<_}
+use native.Mathlib.Nat.{pow-suc, pow-le-pow-right, zero-lt-suc}
+use native.Mathlib.Numerals.{add-one}
+use native.Mathlib.Omega.{arith}
+use lib.Dec.{T, eqb, not-T}
+use lib.ListN.{length, getD, take, drop}
+use lib.Seq.{take-suc, drop-cons, take-all, drop-length}
+use borrow.Author.Tests.{eq-eqb, ne-eqb}
+use Rattle.bits.specs.Bit.{digit}
+use Rattle.bits.proofs.Bits.{digit-lt}
+use Rattle.vectors.specs.Row.{Row, row}
+use Rattle.tables.specs.Limits.{widthLimit}
+use Rattle.grammar.specs.Lists.{allOf}
+use Rattle.grammar.specs.Words.{letter0, letter1, letterX, threeLetters}
+use Rattle.grammar.specs.Line.{numeral, maskBit, valueBit, isLetter, isVector, vectorOf}
+use Rattle.grammar.proofs.Tests.{decide, when-true, when-false, all-append, all-at, all-one, all-none}
+use Rattle.grammar.proofs.Vectors.{Letters, vector-tests, vector-from}
+use Rattle.lines.specs.Reads.{vectorRead, VectorRead}
+
+-- ---- one letter
+
+one : (b c : ℕ) → b ≡ c → 1 ≡ digit (eqb b c || false)
+one b c e = sym (ap (λ (t : Bool). digit (t || false)) (eq-eqb b c e))
+
+other : (b c : ℕ) → (b ≡ c → ⊥) → 0 ≡ digit (eqb b c || false)
+other b c e = sym (ap (λ (t : Bool). digit (t || false)) (ne-eqb b c e))
+
+pub mask-one : (b : ℕ) → b ≡ letterX → 1 ≡ maskBit threeLetters b
+mask-one b e = one b letterX e
+
+pub mask-zero : (b : ℕ) → (b ≡ letterX → ⊥) → 0 ≡ maskBit threeLetters b
+mask-zero b e = other b letterX e
+
+pub value-one : (b : ℕ) → b ≡ letter1 → 1 ≡ valueBit threeLetters b
+value-one b e = one b letter1 e
+
+pub value-zero : (b : ℕ) → (b ≡ letter1 → ⊥) → 0 ≡ valueBit threeLetters b
+value-zero b e = other b letter1 e
+
+pub letter-zero : (b : ℕ) → b ≡ letter0 → true ≡ isLetter threeLetters b
+letter-zero b e = subst (λ (x : ℕ). true ≡ isLetter threeLetters x) (sym e) refl
+
+pub letter-one : (b : ℕ) → b ≡ letter1 → true ≡ isLetter threeLetters b
+letter-one b e = subst (λ (x : ℕ). true ≡ isLetter threeLetters x) (sym e) refl
+
+pub letter-x : (b : ℕ) → (b ≡ letter0 → ⊥) → (b ≡ letter1 → ⊥) → eqb b letterX ≡ isLetter threeLetters b
+letter-x b e₀ e₁ = or-false (eqb b letterX) ∙ sym (ap₂ (λ (s t : Bool). s || false || (t || false) || (eqb b letterX || false)) (ne-eqb b letter0 e₀) (ne-eqb b letter1 e₁))
+  where
+    or-false : (t : Bool) → t ≡ (t || false)
+    or-false true = refl
+    or-false false = refl
+
+-- ---- no vector
+
+none : (f : List ℕ) → (Letters f → ⊥) → VectorRead f 0 0 0
+unfolding vectorRead
+none f h = record { is = sym (when-false (isVector threeLetters f) (vectorOf threeLetters f) (row 0 0 0) (not-T (isVector threeLetters f) (λ t. h (vector-tests f t)))) }
+
+pub too-short : (f : List ℕ) → length f ≡ 0 → VectorRead f 0 0 0
+too-short f e = none f (λ v. omega (arith, v .some))
+
+pub too-long : (f : List ℕ) → widthLimit < length f → VectorRead f 0 0 0
+too-long f e = none f (λ v. omega (arith, v .few))
+
+pub no-letter : (f : List ℕ) (i : ℕ) → i < length f → (r : Bool) → r ≡ isLetter threeLetters (getD f i 0) → r ≡ false → VectorRead f 0 0 0
+no-letter f i h r e z = none f (λ v. subst (λ (b : Bool). T b) (sym e ∙ z) (all-at (isLetter threeLetters) f 0 i h (v .letters)))
+
+-- ---- the loop
+
+pub record So-far (f : List ℕ) (i m v : ℕ) : Type 0 where
+  pub passed : T (allOf (isLetter threeLetters) (take i f))
+  pub mask-below : m < 2 ^ i
+  pub value-below : v < 2 ^ i
+  pub mask-rest : numeral 2 (maskBit threeLetters) m (drop i f) ≡ numeral 2 (maskBit threeLetters) 0 f
+  pub value-rest : numeral 2 (valueBit threeLetters) v (drop i f) ≡ numeral 2 (valueBit threeLetters) 0 f
+
+pub begin : (f : List ℕ) → So-far f 0 0 0
+begin f = record { passed = all-none (isLetter threeLetters); mask-below = omega arith; value-below = omega arith; mask-rest = refl; value-rest = refl }
+
+pub mask-lt : (b x : ℕ) → x ≡ maskBit threeLetters b → x < 2
+mask-lt b x e = omega (arith, digit-lt (eqb b letterX || false))
+
+pub value-lt : (b x : ℕ) → x ≡ valueBit threeLetters b → x < 2
+value-lt b x e = omega (arith, digit-lt (eqb b letter1 || false))
+
+-- one bit more stays below the power of 2, and in a 32-bit number
+below-more : (i n x : ℕ) → n < 2 ^ i → x < 2 → n * 2 + x < 2 ^ (i + 1)
+below-more i n x h k = omega (arith, ap (λ (j : ℕ). 2 ^ j) (add-one i), pow-suc 2 i)
+
+pub fits-word : (i n x : ℕ) → n < 2 ^ i → i < widthLimit → x < 2 → n * 2 + x < 4294967296
+fits-word i n x h l k = let p = pow-le-pow-right {n = 2} (zero-lt-suc 1) {i = suc i} {j = 32} l in omega (arith, pow-suc 2 i, p)
+
+module _ (f : List ℕ) (i m v x y : ℕ) (r : Bool) (h : i < length f) (e : r ≡ isLetter threeLetters (getD f i 0)) (t : r ≡ true)
+    (ex : x ≡ maskBit threeLetters (getD f i 0)) (ey : y ≡ valueBit threeLetters (getD f i 0)) (s : So-far f i m v) where
+  rest : (d : ℕ → ℕ) (n z : ℕ) → z ≡ d (getD f i 0) → numeral 2 d n (drop i f) ≡ numeral 2 d 0 f → numeral 2 d (n * 2 + z) (drop (i + 1) f) ≡ numeral 2 d 0 f
+  unfolding numeral
+  rest d n z ez q = ap₂ (λ (k u : ℕ). numeral 2 d (n * 2 + u) (drop k f)) (add-one i) ez ∙ sym (ap (numeral 2 d n) (drop-cons f i 0 h)) ∙ q
+
+  pub more : So-far f (i + 1) (m * 2 + x) (v * 2 + y)
+  more =
+      record {
+        passed = subst (λ (l : List ℕ). T (allOf (isLetter threeLetters) l)) (sym (ap (λ (k : ℕ). take k f) (add-one i) ∙ take-suc f i 0 h))
+            (all-append (isLetter threeLetters) (take i f) (getD f i 0 ∷ []) (s .passed) (all-one (isLetter threeLetters) (getD f i 0) (subst (λ (b : Bool). T b) (sym t ∙ e) tt)));
+        mask-below = below-more i m x (s .mask-below) (mask-lt (getD f i 0) x ex);
+        value-below = below-more i v y (s .value-below) (value-lt (getD f i 0) y ey);
+        mask-rest = rest (maskBit threeLetters) m x ex (s .mask-rest);
+        value-rest = rest (valueBit threeLetters) v y ey (s .value-rest);
+      }
+
+pub done : (f : List ℕ) (i m v : ℕ) → length f ≤ i → i ≤ length f → (length f ≡ 0 → ⊥) → length f ≤ widthLimit → So-far f i m v → VectorRead f (length f) m v
+unfolding numeral vectorRead
+done f i m v h h′ l u s =
+    let e : i ≡ length f = omega arith in
+    let nil = ap (λ (k : ℕ). drop k f) e ∙ drop-length f in
+    let mask-is = ap (numeral 2 (maskBit threeLetters) m) (sym nil) ∙ s .mask-rest in
+    let value-is = ap (numeral 2 (valueBit threeLetters) v) (sym nil) ∙ s .value-rest in
+    record {
+      is = (λ j. row (length f) (mask-is j) (value-is j))
+          ∙ sym (when-true (isVector threeLetters f) (vectorOf threeLetters f) (row 0 0 0) (vector-from f (record {
+            some = omega arith;
+            few = u;
+            letters = subst (λ (x : List ℕ). T (allOf (isLetter threeLetters) x)) (take-all i f h) (s .passed);
+          })));
+    }
+
+-- ---- what a caller learns
+
+pub vector-is : (f : List ℕ) (w m v : ℕ) → VectorRead f w m v → (w ≡ 0 → ⊥) → T (isVector threeLetters f) × (row w m v ≡ vectorOf threeLetters f)
+unfolding vectorRead
+vector-is f w m v h z =
+    elim (decide (isVector threeLetters f)) [
+      | inl t ↦ (t, h .is ∙ when-true (isVector threeLetters f) (vectorOf threeLetters f) (row 0 0 0) t)
+      | inr t ↦ absurd (z (ap (λ (x : Row). x .width) (h .is ∙ when-false (isVector threeLetters f) (vectorOf threeLetters f) (row 0 0 0) t)))
+    ]
+
+pub no-vector : (f : List ℕ) (w m v : ℕ) → VectorRead f w m v → w ≡ 0 → T (isVector threeLetters f) → ⊥
+unfolding vectorRead
+no-vector f w m v h z t =
+    let e = ap (λ (x : Row). x .width) (h .is ∙ when-true (isVector threeLetters f) (vectorOf threeLetters f) (row 0 0 0) t) in
+    omega (arith, e, z, vector-tests f t .some)

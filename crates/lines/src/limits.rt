@@ -1,0 +1,5 @@
+// Numbers that 01 sets.
+
+pub(crate) const WIDTH_LIMIT: usize = 32;
+
+pub(crate) const NUMBER_LIMIT: u32 = 999;

@@ -1,0 +1,152 @@
+// Writing words, numbers and lines into a lent buffer (01, "Text").
+ghost use mathlib.Core.Path.{_≡_};
+ghost use mathlib.Core.List.{[], _∷_};
+ghost use Prim.Native.Nat.{_≤_, _<_};
+ghost use Rattle.bits.specs.Bit.{bit};
+ghost use Rattle.vectors.specs.Row.{row};
+ghost use Rattle.operations.specs.Kinds.{kindOf};
+ghost use Rattle.grammar.specs.Words.{tab, lockWord};
+ghost use Rattle.grammar.specs.Print.{decimal, letter, lettersOf, rowLine, recordLine, lineText};
+ghost use Rattle.lines.specs.Put.{Holds, Put};
+use crate::cut::LF;
+use crate::cut::TAB;
+use crate::words::name_byte;
+use crate::words::name_len;
+
+fn put_byte(out: &mut [u8], at: usize, b: u8) -> usize
+    requires { ⌜ Holds (now out) at (b ∷ []) ⌝ }
+    ensures { λ r. ⌜ Put (now (out .entry)) (now (out .exit)) at r (b ∷ []) ⌝ }
+{
+    out[at] = b;
+    at + 1
+}
+
+// Writes a word from `at` on.
+pub fn put_word(out: &mut [u8], at: usize, w: &[u8]) -> usize
+    requires { ⌜ Holds (now out) at (now w) ⌝ }
+    ensures { λ r. ⌜ Put (now (out .entry)) (now (out .exit)) at r (now (w .entry)) ⌝ }
+{
+    let mut to = at;
+    let mut i: usize = 0;
+    while i < w.len() {
+        out[to] = w[i];
+        to += 1;
+        i += 1;
+    }
+    to
+}
+
+// Writes a number from `at` on: its leading digits, then its last digit.
+pub fn put_number(out: &mut [u8], at: usize, n: usize) -> usize
+    requires { ⌜ Holds (now out) at (decimal n) ⌝ }
+    ensures { λ r. ⌜ Put (now (out .entry)) (now (out .exit)) at r (decimal n) ⌝ }
+{
+    if n < 10 {
+        out[at] = 48 + n as u8;
+        return at + 1;
+    }
+    let end = put_number(out, at, n / 10);
+    out[end] = 48 + (n % 10) as u8;
+    end + 1
+}
+
+// ---- rows
+
+// The letter of bit `k` of a vector.
+fn letter_of(m: u32, v: u32, k: u32) -> u8
+    requires { ⌜ k < 32 ⌝ }
+    ensures { λ r. ⌜ r ≡ letter (bit m k) (bit v k) ⌝ }
+{
+    if (m >> k) % 2 == 1 {
+        return b'X';
+    }
+    if (v >> k) % 2 == 1 {
+        return b'1';
+    }
+    b'0'
+}
+
+// Writes the letters of the lowest `w` bits of a vector, highest first.
+fn put_letters(out: &mut [u8], at: usize, w: u32, m: u32, v: u32) -> usize
+    requires { ⌜ (w ≤ 32) × Holds (now out) at (lettersOf w m v) ⌝ }
+    ensures { λ r. ⌜ Put (now (out .entry)) (now (out .exit)) at r (lettersOf w m v) ⌝ }
+{
+    let mut k = w;
+    let mut to = at;
+    while 0 < k {
+        k -= 1;
+        out[to] = letter_of(m, v, k);
+        to += 1;
+    }
+    to
+}
+
+fn put_lock(out: &mut [u8], at: usize, lock: u8) -> usize
+    requires { ⌜ Holds (now out) at (lockWord lock) ⌝ }
+    ensures { λ r. ⌜ Put (now (out .entry)) (now (out .exit)) at r (lockWord lock) ⌝ }
+{
+    if lock == 1 {
+        return put_word(out, at, b"locked");
+    }
+    put_word(out, at, b"open")
+}
+
+// Writes a row line.
+pub fn put_row(out: &mut [u8], at: usize, lock: u8, w: u32, m: u32, v: u32) -> usize
+    requires { ⌜ (w ≤ 32) × Holds (now out) at (lineText (rowLine (record { lock = lock; vector = row w m v }))) ⌝ }
+    ensures { λ r. ⌜ Put (now (out .entry)) (now (out .exit)) at r (lineText (rowLine (record { lock = lock; vector = row w m v }))) ⌝ }
+{
+    let a = put_word(out, at, b"row\t");
+    let b = put_lock(out, a, lock);
+    let c = put_byte(out, b, TAB);
+    let d = put_letters(out, c, w, m, v);
+    put_byte(out, d, LF)
+}
+
+// ---- records
+
+fn put_name(out: &mut [u8], at: usize, k: usize) -> usize
+    requires { ⌜ (k < 21) × Holds (now out) at (kindOf k .name) ⌝ }
+    ensures { λ r. ⌜ Put (now (out .entry)) (now (out .exit)) at r (kindOf k .name) ⌝ }
+{
+    let len = name_len(k);
+    let mut to = at;
+    let mut i: usize = 0;
+    while i < len {
+        out[to] = name_byte(k, i);
+        to += 1;
+        i += 1;
+    }
+    to
+}
+
+// Writes a tab and a number.
+fn put_next(out: &mut [u8], at: usize, n: usize) -> usize
+    requires { ⌜ Holds (now out) at (tab ∷ decimal n) ⌝ }
+    ensures { λ r. ⌜ Put (now (out .entry)) (now (out .exit)) at r (tab ∷ decimal n) ⌝ }
+{
+    let a = put_byte(out, at, TAB);
+    put_number(out, a, n)
+}
+
+// Writes a record line.
+pub fn put_record(
+    out: &mut [u8],
+    at: usize,
+    kind: usize,
+    t: usize,
+    a: usize,
+    b: usize,
+    p: usize,
+) -> usize
+    requires { ⌜ (kind < 21) × Holds (now out) at (lineText (recordLine (kind ∷ t ∷ a ∷ b ∷ p ∷ []))) ⌝ }
+    ensures { λ r. ⌜ Put (now (out .entry)) (now (out .exit)) at r (lineText (recordLine (kind ∷ t ∷ a ∷ b ∷ p ∷ []))) ⌝ }
+{
+    let x = put_word(out, at, b"op\t");
+    let y = put_name(out, x, kind);
+    let z = put_next(out, y, t);
+    let u = put_next(out, z, a);
+    let v = put_next(out, u, b);
+    let w = put_next(out, v, p);
+    put_byte(out, w, LF)
+}
