@@ -1,0 +1,11 @@
+pub mod ReadChecks
+pub mod RoundTrips
+pub mod Worked
+pub mod Surveys
+pub mod FillRows
+pub mod RowBytes
+pub mod FillRecords
+pub mod ReadCall
+pub mod PrintLines
+pub mod WriteCall
+pub mod TripCalls

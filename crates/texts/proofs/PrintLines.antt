@@ -1,0 +1,109 @@
+-- Writing the lines of a table: the turns of the two loops. Assumes nothing.
+--   lines-on, lines-end                   the lines from i on, by the first of them
+--   record-at                             the words of a record, by their places in the slice
+--   rows-begin, row-on, rows-end          the row lines
+--   records-begin, record-on, records-end, kind-in   the record lines
+use mathlib.Core.Path.{_≡_, refl, sym, ap, _∙_}
+use mathlib.Core.List.{List, [], _∷_, _++_}
+use Prim.Native.Nat.{ℕ, suc, _+_, _-_, _*_, _/_, _≤_, _<_}
+use native.Mathlib.Nat.{sub-zero}
+use native.Mathlib.Numerals.{add-one}
+use native.Mathlib.Omega.{arith}
+use lib.ListN.{length, getD, take, drop, length-drop}
+use lib.Seq.{getD-take, getD-drop, length-take-le}
+use Rattle.operations.specs.Limits.{recordWords}
+use Rattle.operations.specs.Record.{kindWord}
+use Rattle.tables.specs.Table.{Table, recordOf}
+use Rattle.tables.specs.Meant.{lent}
+use Rattle.grammar.specs.Lists.{listed}
+use Rattle.grammar.specs.Print.{Line, rowLine, recordLine, lineText, linesText, lineRow, rowLines, recordLines}
+use Rattle.lines.proofs.KindNames.{kind-below}
+use Rattle.lines.proofs.PutLines.{rowText, recordText}
+use Rattle.texts.specs.Print.{RecordsFit}
+
+-- ---- the lines of a table
+
+pub lines-on : (f : ℕ → Line) (i n : ℕ) → i < n → linesText (listed f i (n - i)) ≡ lineText (f i) ++ linesText (listed f (i + 1) (n - (i + 1)))
+unfolding listed linesText
+lines-on f i n h =
+    let k : n - i ≡ suc (n - (i + 1)) = omega arith in
+    ap (λ (x : ℕ). linesText (listed f i x)) k ∙ ap (λ (x : ℕ). lineText (f i) ++ linesText (listed f x (n - (i + 1)))) (sym (add-one i))
+
+pub lines-end : (f : ℕ → Line) (i n : ℕ) → n ≤ i → linesText (listed f i (n - i)) ≡ []
+unfolding listed linesText
+lines-end f i n h = let k : n - i ≡ 0 = omega arith in ap (λ (x : ℕ). linesText (listed f i x)) k
+
+-- ---- the words of a record
+
+five : (ws : List ℕ) → length ws ≡ 5 → ws ≡ getD ws 0 0 ∷ getD ws 1 0 ∷ getD ws 2 0 ∷ getD ws 3 0 ∷ getD ws 4 0 ∷ []
+five [] e = absurd (omega arith)
+five (a ∷ []) e = absurd (omega arith)
+five (a ∷ b ∷ []) e = absurd (omega arith)
+five (a ∷ b ∷ c ∷ []) e = absurd (omega arith)
+five (a ∷ b ∷ c ∷ d ∷ []) e = absurd (omega arith)
+five (a ∷ b ∷ c ∷ d ∷ f ∷ []) e = refl
+five (a ∷ b ∷ c ∷ d ∷ f ∷ g ∷ ws) e = absurd (omega arith)
+
+module _ (words : List ℕ) (i : ℕ) (h : recordWords * i + recordWords ≤ length words) where
+  word-at : (k : ℕ) → k < 5 → getD (take recordWords (drop (recordWords * i) words)) k 0 ≡ getD words (recordWords * i + k) 0
+  word-at k l = getD-take recordWords (drop (recordWords * i) words) k 0 l ∙ getD-drop (recordWords * i) words k 0
+
+  pub record-at : (j : ℕ) → j ≡ recordWords * i
+      → take recordWords (drop (recordWords * i) words) ≡ getD words j 0 ∷ getD words (j + 1) 0 ∷ getD words (j + 2) 0 ∷ getD words (j + 3) 0 ∷ getD words (j + 4) 0 ∷ []
+  record-at j e =
+      let z : recordWords * i + 0 ≡ j = omega arith in
+      let at : (k : ℕ) → k < 5 → getD (take recordWords (drop (recordWords * i) words)) k 0 ≡ getD words (j + k) 0 = λ k l. word-at k l ∙ ap (λ (x : ℕ). getD words (x + k) 0) (sym e) in
+      let a₀ = word-at 0 (omega arith) ∙ ap (λ (x : ℕ). getD words x 0) z in
+      let a₁ = at 1 (omega arith) in
+      let a₂ = at 2 (omega arith) in
+      let a₃ = at 3 (omega arith) in
+      let a₄ = at 4 (omega arith) in
+      five (take recordWords (drop (recordWords * i) words)) (length-take-le recordWords (drop (recordWords * i) words) (omega (arith, length-drop (recordWords * i) words)))
+      ∙ (λ ι. a₀ ι ∷ a₁ ι ∷ a₂ ι ∷ a₃ ι ∷ a₄ ι ∷ [])
+
+-- ---- the turns of the two loops
+
+-- the row lines from i on
+abbrev pub rows-from : Table → ℕ → List ℕ
+rows-from t i = linesText (listed (λ j. rowLine (lineRow t j)) i (length (t .widths) - i))
+
+pub row-on : (t : Table) (i w : ℕ) → i < length (t .widths) → w ≡ getD (t .widths) i 0
+    → rows-from t i ≡ rowText (getD (t .locks) i 0) w (getD (t .masks) i 0) (getD (t .values) i 0) ++ rows-from t (i + 1)
+row-on t i w h e =
+    lines-on (λ j. rowLine (lineRow t j)) i (length (t .widths)) h
+    ∙ ap (λ (x : ℕ). rowText (getD (t .locks) i 0) x (getD (t .masks) i 0) (getD (t .values) i 0) ++ rows-from t (i + 1)) (sym e)
+
+pub rows-begin : (t : Table) → rows-from t 0 ≡ linesText (rowLines t)
+rows-begin t = ap (λ (n : ℕ). linesText (listed (λ j. rowLine (lineRow t j)) 0 n)) (sub-zero (length (t .widths)))
+
+pub rows-end : (t : Table) (i : ℕ) → length (t .widths) ≤ i → rows-from t i ≡ []
+rows-end t i h = lines-end (λ j. rowLine (lineRow t j)) i (length (t .widths)) h
+
+-- the record lines from i on
+abbrev pub records-from : List ℕ → ℕ → List ℕ
+records-from words i = linesText (listed (λ j. recordLine (recordOf (lent [] [] [] [] words) j)) i (length words / recordWords - i))
+
+module _ (words : List ℕ) (fits : RecordsFit words) (i : ℕ) (h : i < length words / recordWords) where
+  inside : recordWords * i + recordWords ≤ length words
+  inside = omega (arith, fits .whole)
+
+  words-at : (j k t a b p : ℕ) → j ≡ recordWords * i → k ≡ getD words j 0 → t ≡ getD words (j + 1) 0 → a ≡ getD words (j + 2) 0 → b ≡ getD words (j + 3) 0 → p ≡ getD words (j + 4) 0
+      → recordOf (lent [] [] [] [] words) i ≡ k ∷ t ∷ a ∷ b ∷ p ∷ []
+  words-at j k t a b p e ek et ea eb ep = record-at words i inside j e ∙ (λ ι. sym ek ι ∷ sym et ι ∷ sym ea ι ∷ sym eb ι ∷ sym ep ι ∷ [])
+
+  pub record-on : (j k t a b p : ℕ) → j ≡ recordWords * i → k ≡ getD words j 0 → t ≡ getD words (j + 1) 0 → a ≡ getD words (j + 2) 0 → b ≡ getD words (j + 3) 0 → p ≡ getD words (j + 4) 0
+      → records-from words i ≡ recordText k t a b p ++ records-from words (i + 1)
+  record-on j k t a b p e ek et ea eb ep =
+      lines-on (λ j. recordLine (recordOf (lent [] [] [] [] words) j)) i (length words / recordWords) h
+      ∙ ap (λ (x : List ℕ). lineText (recordLine x) ++ records-from words (i + 1)) (words-at j k t a b p e ek et ea eb ep)
+
+  pub kind-in : (j k : ℕ) → j ≡ recordWords * i → k ≡ getD words j 0 → k < 21
+  kind-in j k e ek =
+      let same : kindWord (recordOf (lent [] [] [] [] words) i) ≡ k = ap kindWord (words-at j k _ _ _ _ e ek refl refl refl refl) in
+      omega (arith, kind-below (kindWord (recordOf (lent [] [] [] [] words) i)) (fits .known i h))
+
+pub records-begin : (words : List ℕ) → records-from words 0 ≡ linesText (recordLines (lent [] [] [] [] words))
+records-begin words = ap (λ (n : ℕ). linesText (listed (λ j. recordLine (recordOf (lent [] [] [] [] words) j)) 0 n)) (sub-zero (length words / recordWords))
+
+pub records-end : (words : List ℕ) (i : ℕ) → length words / recordWords ≤ i → records-from words i ≡ []
+records-end words i h = lines-end (λ j. recordLine (recordOf (lent [] [] [] [] words) j)) i (length words / recordWords) h

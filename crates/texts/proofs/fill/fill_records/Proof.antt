@@ -1,0 +1,218 @@
+-- `texts::fill::fill_records`: the words of the records passed are in the slice, and the rest is still to come. Assumes nothing.
+use mathlib.Core.Path.{ap}
+use Prim.Native.Nat.{_-_}
+use native.Mathlib.Omega.{arith}
+use borrow.Author.Needs.{needs}
+use lib.ListN.{length-set}
+use Rattle.lines.specs.Meant.{lineMeant}
+use Rattle.texts.proofs.FillRecords.{Filling, begin, same-length as kept, ends-in, no-row, no-outside, more, done, room}
+use Rattle.texts.proofs.fill.fill_records.Statement.{statement}
+use Rattle.texts.proofs.fill.fill_records.Tie as tie
+
+abbrev Inv-loop : tie.InvT-loop
+Inv-loop text from n words₀ at₀ i₀ k₀ words at i k = Filling text from at i k n words₀ words
+
+abbrev μ-loop : tie.MeasureT-loop
+μ-loop text from n words₀ at₀ i₀ k₀ words at i k = n - k
+
+loop-holds : tie.Need-loop-holds Inv-loop μ-loop
+loop-holds c = let s = c .before .before in begin (s .args .text .now) (s .args .from) (s .args .n) (s .args .words .now) (s .pre)
+
+end-of-requires : tie.Need-end-of-requires Inv-loop μ-loop
+end-of-requires c κs = c .before .loop .inv .inside
+
+sub-line : tie.Need-sub-line Inv-loop μ-loop
+sub-line c = omega arith
+
+part-line-start : tie.Need-part-line-start Inv-loop μ-loop
+part-line-start c = omega arith
+
+part-line-end : tie.Need-part-line-end Inv-loop μ-loop
+part-line-end c = omega (arith, c .end-of .ensures .1)
+
+line-requires : tie.Need-line-requires Inv-loop μ-loop
+line-requires c κs = tt
+
+enum-told : tie.Need-enum-told Inv-loop μ-loop
+enum-told c = search needs
+
+same-length : tie.Need-same-length Inv-loop μ-loop
+same-length c = kept (c .before .before .before .before .before .before .loop .inv)
+
+returns : tie.Need-returns Inv-loop μ-loop
+returns c =
+    let p2 = c .before .before in
+    let p4 = p2 .before .before in
+    let p5 = p4 .before in
+    let p6 = p5 .before in
+    absurd (no-row (p6 .loop .inv) (p4 .end-of .result) (p4 .end-of .ensures .0) (p5 .loop-test .taken) (lineMeant (p2 .line .result)) (p2 .line .ensures) _ (ap lineMeant (c .enum-told .given .1)))
+
+enum-known-f : tie.Need-enum-known-f Inv-loop μ-loop
+enum-known-f c = search needs
+
+mul-words : tie.Need-mul-words Inv-loop μ-loop
+mul-words c = search needs
+
+slice-write-words : tie.Need-slice-write-words Inv-loop μ-loop
+slice-write-words c =
+    let p6 = c .before .before .before .before .before .before in
+    let p7 = p6 .before in
+    let p10 = p7 .before .before .before in
+    omega (arith, room (p7 .loop .inv) (p6 .loop-test .taken) (p10 .pre .words-hold))
+
+add-words : tie.Need-add-words Inv-loop μ-loop
+add-words c =
+    let p6 = c .before .before .before .before .before .before in
+    let p7 = p6 .before in
+    let p10 = p7 .before .before .before in
+    omega (arith, room (p7 .loop .inv) (p6 .loop-test .taken) (p10 .pre .words-hold))
+
+mul-words-2 : tie.Need-mul-words-2 Inv-loop μ-loop
+mul-words-2 c = search needs
+
+slice-write-words-2 : tie.Need-slice-write-words-2 Inv-loop μ-loop
+slice-write-words-2 c =
+    let p6 = c .before .before .before .before .before .before in
+    let p7 = p6 .before in
+    let p10 = p7 .before .before .before in
+    simp length-set (omega (arith, room (p7 .loop .inv) (p6 .loop-test .taken) (p10 .pre .words-hold)))
+
+add-words-2 : tie.Need-add-words-2 Inv-loop μ-loop
+add-words-2 c =
+    let p6 = c .before .before .before .before .before .before in
+    let p7 = p6 .before in
+    let p10 = p7 .before .before .before in
+    omega (arith, room (p7 .loop .inv) (p6 .loop-test .taken) (p10 .pre .words-hold))
+
+mul-words-3 : tie.Need-mul-words-3 Inv-loop μ-loop
+mul-words-3 c = search needs
+
+slice-write-words-3 : tie.Need-slice-write-words-3 Inv-loop μ-loop
+slice-write-words-3 c =
+    let p6 = c .before .before .before .before .before .before in
+    let p7 = p6 .before in
+    let p10 = p7 .before .before .before in
+    simp length-set (omega (arith, room (p7 .loop .inv) (p6 .loop-test .taken) (p10 .pre .words-hold)))
+
+add-words-3 : tie.Need-add-words-3 Inv-loop μ-loop
+add-words-3 c =
+    let p6 = c .before .before .before .before .before .before in
+    let p7 = p6 .before in
+    let p10 = p7 .before .before .before in
+    omega (arith, room (p7 .loop .inv) (p6 .loop-test .taken) (p10 .pre .words-hold))
+
+mul-words-4 : tie.Need-mul-words-4 Inv-loop μ-loop
+mul-words-4 c = search needs
+
+slice-write-words-4 : tie.Need-slice-write-words-4 Inv-loop μ-loop
+slice-write-words-4 c =
+    let p6 = c .before .before .before .before .before .before in
+    let p7 = p6 .before in
+    let p10 = p7 .before .before .before in
+    simp length-set (omega (arith, room (p7 .loop .inv) (p6 .loop-test .taken) (p10 .pre .words-hold)))
+
+add-words-4 : tie.Need-add-words-4 Inv-loop μ-loop
+add-words-4 c =
+    let p6 = c .before .before .before .before .before .before in
+    let p7 = p6 .before in
+    let p10 = p7 .before .before .before in
+    omega (arith, room (p7 .loop .inv) (p6 .loop-test .taken) (p10 .pre .words-hold))
+
+mul-words-5 : tie.Need-mul-words-5 Inv-loop μ-loop
+mul-words-5 c = search needs
+
+slice-write-words-5 : tie.Need-slice-write-words-5 Inv-loop μ-loop
+slice-write-words-5 c =
+    let p6 = c .before .before .before .before .before .before in
+    let p7 = p6 .before in
+    let p10 = p7 .before .before .before in
+    simp length-set (omega (arith, room (p7 .loop .inv) (p6 .loop-test .taken) (p10 .pre .words-hold)))
+
+enum-told-2 : tie.Need-enum-told-2 Inv-loop μ-loop
+enum-told-2 c = search needs
+
+same-length-2 : tie.Need-same-length-2 Inv-loop μ-loop
+same-length-2 c = kept (c .before .before .before .before .before .before .loop .inv)
+
+returns-2 : tie.Need-returns-2 Inv-loop μ-loop
+returns-2 c =
+    let p2 = c .before .before in
+    let p4 = p2 .before .before in
+    let p5 = p4 .before in
+    let p6 = p5 .before in
+    absurd (no-outside (p6 .loop .inv) (p4 .end-of .result) (p4 .end-of .ensures .0) (p5 .loop-test .taken) (lineMeant (p2 .line .result)) (p2 .line .ensures) (ap lineMeant (c .enum-told2 .given .1)))
+
+add-at : tie.Need-add-at Inv-loop μ-loop
+add-at c =
+    let p5 = c .before .before .before .before .before in
+    let p6 = p5 .before in
+    let p7 = p6 .before in
+    omega (arith, ends-in (p7 .loop .inv) (p5 .end-of .result) (p5 .end-of .ensures .0) (p6 .loop-test .taken))
+
+add-i : tie.Need-add-i Inv-loop μ-loop
+add-i c =
+    let p6 = c .before .before .before .before .before .before in
+    let p7 = p6 .before in
+    let p10 = p7 .before .before .before in
+    omega (arith, room (p7 .loop .inv) (p6 .loop-test .taken) (p10 .pre .words-hold))
+
+add-k : tie.Need-add-k Inv-loop μ-loop
+add-k c = omega arith
+
+loop-less : tie.Need-loop-less Inv-loop μ-loop
+loop-less c = omega arith
+
+loop-again : tie.Need-loop-again Inv-loop μ-loop
+loop-again c =
+    let p3 = c .before .before .before in
+    let p5 = p3 .before .before in
+    let p6 = p5 .before in
+    let p7 = p6 .before in
+    more (p7 .loop .inv) (p5 .end-of .result) (p5 .end-of .ensures .0) (p6 .loop-test .taken) (lineMeant (p3 .line .result)) (p3 .line .ensures) _ _ _ _ _ (ap lineMeant (c .before .f .given .1))
+
+same-length-3 : tie.Need-same-length-3 Inv-loop μ-loop
+same-length-3 c = kept (c .before .loop .inv)
+
+returns-3 : tie.Need-returns-3 Inv-loop μ-loop
+returns-3 c = done (c .before .loop .inv) (c .loop-test .left)
+
+pub fill-records-spec : {M : Type 1} → statement M
+fill-records-spec =
+    tie.close
+    (tie.spec
+    Inv-loop
+    μ-loop
+    loop-holds
+    end-of-requires
+    sub-line
+    part-line-start
+    part-line-end
+    line-requires
+    enum-told
+    same-length
+    returns
+    enum-known-f
+    mul-words
+    slice-write-words
+    add-words
+    mul-words-2
+    slice-write-words-2
+    add-words-2
+    mul-words-3
+    slice-write-words-3
+    add-words-3
+    mul-words-4
+    slice-write-words-4
+    add-words-4
+    mul-words-5
+    slice-write-words-5
+    enum-told-2
+    same-length-2
+    returns-2
+    add-at
+    add-i
+    add-k
+    loop-less
+    loop-again
+    same-length-3
+    returns-3)

@@ -1,0 +1,211 @@
+-- `texts::fill::fill_rows`: the rows passed are in the slices, and the rest is still to come. Assumes nothing.
+use mathlib.Core.Path.{ap}
+use Prim.Native.Nat.{_≤_, _-_}
+use native.Mathlib.Omega.{arith}
+use borrow.Author.Needs.{needs}
+use Rattle.lines.specs.Meant.{lineMeant}
+use Rattle.texts.proofs.FillRows.{Filling, begin, lengths, ends-in, no-record, no-outside, more, done}
+use Rattle.texts.proofs.RowBytes.{bytes-fit}
+use Rattle.texts.proofs.fill.fill_rows.Statement.{statement}
+use Rattle.texts.proofs.fill.fill_rows.Tie as tie
+
+abbrev Inv-loop : tie.InvT-loop
+Inv-loop text n width₀ lock₀ mask₀ value₀ at₀ k₀ width lock mask value at k = Filling text at k width₀ width lock₀ lock mask₀ mask value₀ value × (k ≤ n)
+
+abbrev μ-loop : tie.MeasureT-loop
+μ-loop text n width₀ lock₀ mask₀ value₀ at₀ k₀ width lock mask value at k = n - k
+
+loop-holds : tie.Need-loop-holds Inv-loop μ-loop
+loop-holds c =
+    let s = c .before .before .before .before .before in (begin (s .args .text .now) (s .args .n) (s .args .width .now) (s .args .lock .now) (s .args .mask .now) (s .args .value .now) (s .pre), omega arith)
+
+end-of-requires : tie.Need-end-of-requires Inv-loop μ-loop
+end-of-requires c κs = c .before .loop .inv .0 .inside
+
+sub-line : tie.Need-sub-line Inv-loop μ-loop
+sub-line c = omega arith
+
+part-line-start : tie.Need-part-line-start Inv-loop μ-loop
+part-line-start c = omega arith
+
+part-line-end : tie.Need-part-line-end Inv-loop μ-loop
+part-line-end c = omega (arith, c .end-of .ensures .1)
+
+line-requires : tie.Need-line-requires Inv-loop μ-loop
+line-requires c κs = tt
+
+enum-known-f : tie.Need-enum-known-f Inv-loop μ-loop
+enum-known-f c = search needs
+
+cast-width : tie.Need-cast-width Inv-loop μ-loop
+cast-width c =
+    let p3 = c .before .before .before in
+    omega (arith, bytes-fit _ (lineMeant (p3 .line .result)) (p3 .line .ensures) _ (ap lineMeant (c .before .f .given .1)))
+
+slice-write-width : tie.Need-slice-write-width Inv-loop μ-loop
+slice-write-width c =
+    let p6 = c .before .before .before .before .before .before in
+    let p7 = p6 .before in
+    let p13 = p7 .before .before .before .before .before .before in
+    omega (arith, p6 .loop-test .taken, p13 .pre .widths-hold, lengths (p7 .loop .inv .0))
+
+cast-lock : tie.Need-cast-lock Inv-loop μ-loop
+cast-lock c =
+    let p3 = c .before .before .before in
+    omega (arith, bytes-fit _ (lineMeant (p3 .line .result)) (p3 .line .ensures) _ (ap lineMeant (c .before .f .given .1)))
+
+slice-write-lock : tie.Need-slice-write-lock Inv-loop μ-loop
+slice-write-lock c =
+    let p6 = c .before .before .before .before .before .before in
+    let p7 = p6 .before in
+    let p13 = p7 .before .before .before .before .before .before in
+    omega (arith, p6 .loop-test .taken, p13 .pre .locks-hold, lengths (p7 .loop .inv .0))
+
+mul-mask : tie.Need-mul-mask Inv-loop μ-loop
+mul-mask c = search needs
+
+slice-write-mask : tie.Need-slice-write-mask Inv-loop μ-loop
+slice-write-mask c =
+    let p6 = c .before .before .before .before .before .before in
+    let p7 = p6 .before in
+    let p13 = p7 .before .before .before .before .before .before in
+    omega (arith, p6 .loop-test .taken, p13 .pre .masks-hold, lengths (p7 .loop .inv .0))
+
+mul-value : tie.Need-mul-value Inv-loop μ-loop
+mul-value c = search needs
+
+slice-write-value : tie.Need-slice-write-value Inv-loop μ-loop
+slice-write-value c =
+    let p6 = c .before .before .before .before .before .before in
+    let p7 = p6 .before in
+    let p13 = p7 .before .before .before .before .before .before in
+    omega (arith, p6 .loop-test .taken, p13 .pre .values-hold, lengths (p7 .loop .inv .0))
+
+enum-told : tie.Need-enum-told Inv-loop μ-loop
+enum-told c = search needs
+
+same-length : tie.Need-same-length Inv-loop μ-loop
+same-length c = lengths (c .before .before .before .before .before .before .loop .inv .0) .0
+
+same-length-2 : tie.Need-same-length-2 Inv-loop μ-loop
+same-length-2 c = lengths (c .before .before .before .before .before .before .loop .inv .0) .1
+
+same-length-3 : tie.Need-same-length-3 Inv-loop μ-loop
+same-length-3 c = lengths (c .before .before .before .before .before .before .loop .inv .0) .2
+
+same-length-4 : tie.Need-same-length-4 Inv-loop μ-loop
+same-length-4 c = lengths (c .before .before .before .before .before .before .loop .inv .0) .3
+
+returns : tie.Need-returns Inv-loop μ-loop
+returns c =
+    let p2 = c .before .before in
+    let p4 = p2 .before .before in
+    let p5 = p4 .before in
+    let p6 = p5 .before in
+    let p12 = p6 .before .before .before .before .before .before in
+    absurd (no-record (p6 .loop .inv .0) (p4 .end-of .result) (p4 .end-of .ensures .0) (omega (arith, p5 .loop-test .taken, p12 .pre .count)) (lineMeant (p2 .line .result)) (p2 .line .ensures) _ (ap lineMeant (c .enum-told .given .1)))
+
+enum-told-2 : tie.Need-enum-told-2 Inv-loop μ-loop
+enum-told-2 c = search needs
+
+same-length-5 : tie.Need-same-length-5 Inv-loop μ-loop
+same-length-5 c = lengths (c .before .before .before .before .before .before .loop .inv .0) .0
+
+same-length-6 : tie.Need-same-length-6 Inv-loop μ-loop
+same-length-6 c = lengths (c .before .before .before .before .before .before .loop .inv .0) .1
+
+same-length-7 : tie.Need-same-length-7 Inv-loop μ-loop
+same-length-7 c = lengths (c .before .before .before .before .before .before .loop .inv .0) .2
+
+same-length-8 : tie.Need-same-length-8 Inv-loop μ-loop
+same-length-8 c = lengths (c .before .before .before .before .before .before .loop .inv .0) .3
+
+returns-2 : tie.Need-returns-2 Inv-loop μ-loop
+returns-2 c =
+    let p2 = c .before .before in
+    let p4 = p2 .before .before in
+    let p5 = p4 .before in
+    let p6 = p5 .before in
+    let p12 = p6 .before .before .before .before .before .before in
+    absurd (no-outside (p6 .loop .inv .0) (p4 .end-of .result) (p4 .end-of .ensures .0) (omega (arith, p5 .loop-test .taken, p12 .pre .count)) (lineMeant (p2 .line .result)) (p2 .line .ensures) (ap lineMeant (c .enum-told2 .given .1)))
+
+add-at : tie.Need-add-at Inv-loop μ-loop
+add-at c =
+    let p5 = c .before .before .before .before .before in
+    let p6 = p5 .before in
+    let p7 = p6 .before in
+    let p13 = p7 .before .before .before .before .before .before in
+    omega (arith, ends-in (p7 .loop .inv .0) (p5 .end-of .result) (p5 .end-of .ensures .0) (omega (arith, p6 .loop-test .taken, p13 .pre .count)))
+
+add-k : tie.Need-add-k Inv-loop μ-loop
+add-k c = omega arith
+
+loop-less : tie.Need-loop-less Inv-loop μ-loop
+loop-less c = omega arith
+
+loop-again : tie.Need-loop-again Inv-loop μ-loop
+loop-again c =
+    let p3 = c .before .before .before in
+    let p5 = p3 .before .before in
+    let p6 = p5 .before in
+    let p7 = p6 .before in
+    let p13 = p7 .before .before .before .before .before .before in
+    (more (p7 .loop .inv .0) (p5 .end-of .result) (p5 .end-of .ensures .0) (omega (arith, p6 .loop-test .taken, p13 .pre .count)) (lineMeant (p3 .line .result)) (p3 .line .ensures) _ (ap lineMeant (c .before .f .given .1)), omega arith)
+
+same-length-9 : tie.Need-same-length-9 Inv-loop μ-loop
+same-length-9 c = lengths (c .before .loop .inv .0) .0
+
+same-length-10 : tie.Need-same-length-10 Inv-loop μ-loop
+same-length-10 c = lengths (c .before .loop .inv .0) .1
+
+same-length-11 : tie.Need-same-length-11 Inv-loop μ-loop
+same-length-11 c = lengths (c .before .loop .inv .0) .2
+
+same-length-12 : tie.Need-same-length-12 Inv-loop μ-loop
+same-length-12 c = lengths (c .before .loop .inv .0) .3
+
+returns-3 : tie.Need-returns-3 Inv-loop μ-loop
+returns-3 c = done (c .before .loop .inv .0) (omega (arith, c .before .before .before .before .before .before .before .pre .count))
+
+pub fill-rows-spec : {M : Type 1} → statement M
+fill-rows-spec =
+    tie.close
+    (tie.spec
+    Inv-loop
+    μ-loop
+    loop-holds
+    end-of-requires
+    sub-line
+    part-line-start
+    part-line-end
+    line-requires
+    enum-known-f
+    cast-width
+    slice-write-width
+    cast-lock
+    slice-write-lock
+    mul-mask
+    slice-write-mask
+    mul-value
+    slice-write-value
+    enum-told
+    same-length
+    same-length-2
+    same-length-3
+    same-length-4
+    returns
+    enum-told-2
+    same-length-5
+    same-length-6
+    same-length-7
+    same-length-8
+    returns-2
+    add-at
+    add-k
+    loop-less
+    loop-again
+    same-length-9
+    same-length-10
+    same-length-11
+    same-length-12
+    returns-3)

@@ -1,0 +1,120 @@
+-- `texts::fill::survey`: what is counted and what is left make up the whole. Assumes nothing.
+use mathlib.Core.Path.{_≡_, refl, ap}
+use mathlib.Core.Logic.{⊎-elim}
+use Prim.Native.Nat.{_-_}
+use native.Mathlib.Omega.{arith}
+use borrow.Author.Needs.{needs}
+use lib.ListN.{length}
+use Rattle.lines.specs.Meant.{lineMeant}
+use Rattle.texts.proofs.Surveys.{Surveying, begin, no-end, outside-line, late-row, more-row, more-record, ended, with-counts}
+use Rattle.texts.proofs.fill.survey.Statement.{statement}
+use Rattle.texts.proofs.fill.survey.Tie as tie
+
+abbrev Inv-loop : tie.InvT-loop
+Inv-loop text len at₀ n₀ rows₀ records₀ at n rows records = (len ≡ length text) × Surveying text at n rows records
+
+abbrev μ-loop : tie.MeasureT-loop
+μ-loop text len at₀ n₀ rows₀ records₀ at n rows records = len - at
+
+loop-holds : tie.Need-loop-holds Inv-loop μ-loop
+loop-holds c = (refl, begin (c .before .args .text .now))
+
+end-of-requires : tie.Need-end-of-requires Inv-loop μ-loop
+end-of-requires c κs = c .before .loop .inv .1 .inside
+
+returns : tie.Need-returns Inv-loop μ-loop
+returns c =
+    let p2 = c .before .before in
+    let p3 = p2 .before in
+    no-end (p3 .loop .inv .1) (c .before .end-of .result) (c .before .end-of .ensures .0) (p2 .loop-test .taken) (c .if1 .taken)
+
+sub-line : tie.Need-sub-line Inv-loop μ-loop
+sub-line c = omega arith
+
+part-line-start : tie.Need-part-line-start Inv-loop μ-loop
+part-line-start c = omega arith
+
+part-line-end : tie.Need-part-line-end Inv-loop μ-loop
+part-line-end c = omega arith
+
+line-requires : tie.Need-line-requires Inv-loop μ-loop
+line-requires c κs = tt
+
+enum-told : tie.Need-enum-told Inv-loop μ-loop
+enum-told c = search needs
+
+returns-2 : tie.Need-returns-2 Inv-loop μ-loop
+returns-2 c =
+    let p3 = c .before .before .before in
+    let p5 = p3 .before .before in
+    let p6 = p5 .before in
+    let p8 = p6 .before .before in
+    late-row (p8 .loop .inv .1) (p6 .end-of .result) (p6 .end-of .ensures .0) (omega (arith, p6 .end-of .ensures .1, p5 .if1 .left)) (lineMeant (p3 .line .result)) (p3 .line .ensures) _ (ap lineMeant (c .before .enum-told .given .1)) (c .if2 .taken)
+
+add-rows : tie.Need-add-rows Inv-loop μ-loop
+add-rows c = omega arith
+
+enum-told-2 : tie.Need-enum-told-2 Inv-loop μ-loop
+enum-told-2 c = search needs
+
+add-records : tie.Need-add-records Inv-loop μ-loop
+add-records c = omega arith
+
+enum-told-3 : tie.Need-enum-told-3 Inv-loop μ-loop
+enum-told-3 c = search needs
+
+returns-3 : tie.Need-returns-3 Inv-loop μ-loop
+returns-3 c =
+    let p2 = c .before .before in
+    let p4 = p2 .before .before in
+    let p5 = p4 .before in
+    let p7 = p5 .before .before in
+    outside-line (p7 .loop .inv .1) (p5 .end-of .result) (p5 .end-of .ensures .0) (omega (arith, p5 .end-of .ensures .1, p4 .if1 .left)) (lineMeant (p2 .line .result)) (p2 .line .ensures) (ap lineMeant (c .enum-told3 .given .1))
+
+add-at : tie.Need-add-at Inv-loop μ-loop
+add-at c = omega arith
+
+add-n : tie.Need-add-n Inv-loop μ-loop
+add-n c = omega arith
+
+loop-less : tie.Need-loop-less Inv-loop μ-loop
+loop-less c = omega arith
+
+loop-again : tie.Need-loop-again Inv-loop μ-loop
+loop-again c =
+    let p3 = c .before .before .before in
+    let p4 = p3 .before in
+    let p6 = p4 .before .before in
+    ⊎-elim
+    (λ w. (refl, with-counts (c .match .rows) (c .match .records) (w .3) (w .4) (more-row (p6 .loop .inv .1) (p4 .end-of .result) (p4 .end-of .ensures .0) (omega (arith, p4 .end-of .ensures .1, p3 .if1 .left)) (lineMeant (c .before .line .result)) (c .before .line .ensures) _ (ap lineMeant (w .1 .given .1)) (omega (arith, w .2 .left)))))
+    (λ w. (refl, with-counts (c .match .rows) (c .match .records) (w .2) (w .3) (more-record (p6 .loop .inv .1) (p4 .end-of .result) (p4 .end-of .ensures .0) (omega (arith, p4 .end-of .ensures .1, p3 .if1 .left)) (lineMeant (c .before .line .result)) (c .before .line .ensures) _ (ap lineMeant (w .1 .given .1)) refl)))
+    (c .match .came)
+
+returns-4 : tie.Need-returns-4 Inv-loop μ-loop
+returns-4 c = ended (c .before .loop .inv .1) (c .loop-test .left)
+
+pub survey-spec : {M : Type 1} → statement M
+survey-spec =
+    tie.close
+    (tie.spec
+    Inv-loop
+    μ-loop
+    loop-holds
+    end-of-requires
+    returns
+    sub-line
+    part-line-start
+    part-line-end
+    line-requires
+    enum-told
+    returns-2
+    add-rows
+    enum-told-2
+    add-records
+    enum-told-3
+    returns-3
+    add-at
+    add-n
+    loop-less
+    loop-again
+    returns-4)

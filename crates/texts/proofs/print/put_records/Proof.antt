@@ -1,0 +1,156 @@
+-- `texts::print::put_records`: the record lines still to come, put at the place reached, make up the whole. Assumes nothing.
+use mathlib.Core.Path.{_≡_, refl}
+use mathlib.Core.List.{[]}
+use Prim.Native.Nat.{_≤_, _+_, _-_, _*_, _/_}
+use native.Mathlib.Omega.{arith}
+use lib.ListN.{length}
+use Rattle.tables.specs.Meant.{lent}
+use Rattle.grammar.specs.Print.{linesText, recordLines}
+use Rattle.lines.proofs.PutLines.{recordText}
+use Rattle.lines.proofs.Puts.{Writing, begin, step-on, room-on, done-on}
+use Rattle.texts.proofs.PrintLines.{records-from, records-begin, record-on, kind-in, records-end}
+use Rattle.texts.proofs.print.put_records.Statement.{statement}
+use Rattle.texts.proofs.print.put_records.Tie as tie
+
+abbrev Inv-loop : tie.InvT-loop
+Inv-loop out₀ from words n at₀ i₀ out at i = (n ≡ length words / 5) × (i ≤ n) × Writing out₀ from (linesText (recordLines (lent [] [] [] [] words))) out at (records-from words i)
+
+abbrev μ-loop : tie.MeasureT-loop
+μ-loop out₀ from words n at₀ i₀ out at i = n - i
+
+loop-holds : tie.Need-loop-holds Inv-loop μ-loop
+loop-holds c = let s = c .before .before in (refl, omega arith, begin (s .args .out .now) (s .args .from) _ _ (records-begin (s .args .words .now)))
+
+mul-j : tie.Need-mul-j Inv-loop μ-loop
+mul-j c = omega arith
+
+mul-index : tie.Need-mul-index Inv-loop μ-loop
+mul-index c = omega arith
+
+shared-slice-read-index : tie.Need-shared-slice-read-index Inv-loop μ-loop
+shared-slice-read-index c = omega arith
+
+index-requires : tie.Need-index-requires Inv-loop μ-loop
+index-requires c κs = tt
+
+add-index : tie.Need-add-index Inv-loop μ-loop
+add-index c = omega arith
+
+mul-index-2 : tie.Need-mul-index-2 Inv-loop μ-loop
+mul-index-2 c = omega arith
+
+shared-slice-read-index-2 : tie.Need-shared-slice-read-index-2 Inv-loop μ-loop
+shared-slice-read-index-2 c = omega arith
+
+index-requires-2 : tie.Need-index-requires-2 Inv-loop μ-loop
+index-requires-2 c κs = tt
+
+add-index-2 : tie.Need-add-index-2 Inv-loop μ-loop
+add-index-2 c = omega arith
+
+mul-index-3 : tie.Need-mul-index-3 Inv-loop μ-loop
+mul-index-3 c = omega arith
+
+shared-slice-read-index-3 : tie.Need-shared-slice-read-index-3 Inv-loop μ-loop
+shared-slice-read-index-3 c = omega arith
+
+index-requires-3 : tie.Need-index-requires-3 Inv-loop μ-loop
+index-requires-3 c κs = tt
+
+add-index-3 : tie.Need-add-index-3 Inv-loop μ-loop
+add-index-3 c = omega arith
+
+mul-index-4 : tie.Need-mul-index-4 Inv-loop μ-loop
+mul-index-4 c = omega arith
+
+shared-slice-read-index-4 : tie.Need-shared-slice-read-index-4 Inv-loop μ-loop
+shared-slice-read-index-4 c = omega arith
+
+index-requires-4 : tie.Need-index-requires-4 Inv-loop μ-loop
+index-requires-4 c κs = tt
+
+add-index-4 : tie.Need-add-index-4 Inv-loop μ-loop
+add-index-4 c = omega arith
+
+mul-index-5 : tie.Need-mul-index-5 Inv-loop μ-loop
+mul-index-5 c = omega arith
+
+shared-slice-read-index-5 : tie.Need-shared-slice-read-index-5 Inv-loop μ-loop
+shared-slice-read-index-5 c = omega arith
+
+index-requires-5 : tie.Need-index-requires-5 Inv-loop μ-loop
+index-requires-5 c κs = tt
+
+put-record-requires : tie.Need-put-record-requires Inv-loop μ-loop
+put-record-requires c κs =
+    let p2 = c .before .before in
+    let p4 = p2 .before .before in
+    let p6 = p4 .before .before in
+    let p8 = p6 .before .before in
+    let p12 = p8 .before .before .before .before in
+    let s = p12 .before .before .before in
+    let words = s .args .words .now in
+    let i = p12 .loop in
+    let line = record-on words (s .pre .0) (i .i) (omega arith) (5 * i .i) (p8 .index .result) (p6 .index2 .result) (p4 .index3 .result) (p2 .index4 .result) (c .index5 .result) refl (p8 .index .ensures) (p6 .index2 .ensures) (p4 .index3 .ensures) (p2 .index4 .ensures) (c .index5 .ensures) in
+    (kind-in words (s .pre .0) (i .i) (omega arith) (5 * i .i) (p8 .index .result) refl (p8 .index .ensures), room-on (recordText (p8 .index .result) (p6 .index2 .result) (p4 .index3 .result) (p2 .index4 .result) (c .index5 .result)) (records-from words (i .i + 1)) line (s .pre .1) (i .inv .2))
+
+add-i : tie.Need-add-i Inv-loop μ-loop
+add-i c = omega arith
+
+loop-less : tie.Need-loop-less Inv-loop μ-loop
+loop-less c = omega arith
+
+loop-again : tie.Need-loop-again Inv-loop μ-loop
+loop-again c =
+    let p2 = c .before .before in
+    let p3 = p2 .before in
+    let p5 = p3 .before .before in
+    let p7 = p5 .before .before in
+    let p9 = p7 .before .before in
+    let p11 = p9 .before .before in
+    let p15 = p11 .before .before .before .before in
+    let s = p15 .before .before .before in
+    let words = s .args .words .now in
+    let i = p15 .loop in
+    let line = record-on words (s .pre .0) (i .i) (omega arith) (5 * i .i) (p11 .index .result) (p9 .index2 .result) (p7 .index3 .result) (p5 .index4 .result) (p3 .index5 .result) refl (p11 .index .ensures) (p9 .index2 .ensures) (p7 .index3 .ensures) (p5 .index4 .ensures) (p3 .index5 .ensures) in
+    (refl, omega arith, step-on _ (records-from words (i .i + 1)) line (i .inv .2) (p2 .put-record .ensures))
+
+same-length : tie.Need-same-length Inv-loop μ-loop
+same-length c = c .before .loop .inv .2 .kept
+
+returns : tie.Need-returns Inv-loop μ-loop
+returns c = done-on (records-end (c .before .before .before .before .args .words .now) (c .before .loop .i) (omega arith)) (c .before .loop .inv .2)
+
+pub put-records-spec : {M : Type 1} → statement M
+put-records-spec =
+    tie.close
+    (tie.spec
+    Inv-loop
+    μ-loop
+    loop-holds
+    mul-j
+    mul-index
+    shared-slice-read-index
+    index-requires
+    add-index
+    mul-index-2
+    shared-slice-read-index-2
+    index-requires-2
+    add-index-2
+    mul-index-3
+    shared-slice-read-index-3
+    index-requires-3
+    add-index-3
+    mul-index-4
+    shared-slice-read-index-4
+    index-requires-4
+    add-index-4
+    mul-index-5
+    shared-slice-read-index-5
+    index-requires-5
+    put-record-requires
+    add-i
+    loop-less
+    loop-again
+    same-length
+    returns)

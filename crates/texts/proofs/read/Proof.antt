@@ -1,0 +1,152 @@
+-- `texts::read`: the checks in their order, then the two fills. Assumes nothing.
+use Rattle.tables.specs.Meant.{lent}
+use Rattle.texts.proofs.ReadCall.{refuse-locks, refuse-masks, refuse-values, refuse-length, refuse-line, refuse-rows, refuse-words, rows-wait, records-wait, accept}
+use borrow.Author.Needs.{needs}
+use Rattle.texts.proofs.read.Statement.{statement}
+use Rattle.texts.proofs.read.Tie as tie
+
+returns : tie.Need-returns
+returns c =
+    let s = c .before .before .before .before .before .before .before in
+    let slices = lent (s .args .width .now) (s .args .lock .now) (s .args .mask .now) (s .args .value .now) (s .args .words .now) in
+    refuse-locks (s .args .text .now) slices (c .if1 .taken)
+
+returns-2 : tie.Need-returns-2
+returns-2 c =
+    let s = c .before .before .before .before .before .before .before .before in
+    let slices = lent (s .args .width .now) (s .args .lock .now) (s .args .mask .now) (s .args .value .now) (s .args .words .now) in
+    refuse-masks (s .args .text .now) slices (c .before .if1 .left) (c .if2 .taken)
+
+returns-3 : tie.Need-returns-3
+returns-3 c =
+    let s = c .before .before .before .before .before .before .before .before .before in
+    let slices = lent (s .args .width .now) (s .args .lock .now) (s .args .mask .now) (s .args .value .now) (s .args .words .now) in
+    refuse-values (s .args .text .now) slices (c .before .before .if1 .left) (c .before .if2 .left) (c .if3 .taken)
+
+returns-4 : tie.Need-returns-4
+returns-4 c =
+    let p2 = c .before .before in
+    let p3 = p2 .before in
+    let s = p3 .before .before .before .before .before .before .before in
+    let slices = lent (s .args .width .now) (s .args .lock .now) (s .args .mask .now) (s .args .value .now) (s .args .words .now) in
+    refuse-length (s .args .text .now) slices (p3 .if1 .left) (p2 .if2 .left) (c .before .if3 .left) (c .if4 .taken)
+
+survey-requires : tie.Need-survey-requires
+survey-requires c κs = search needs
+
+returns-5 : tie.Need-returns-5
+returns-5 c =
+    let p2 = c .before .before in
+    let p3 = p2 .before in
+    let p4 = p3 .before in
+    let p5 = p4 .before in
+    let s = p5 .before .before .before .before .before .before .before in
+    let slices = lent (s .args .width .now) (s .args .lock .now) (s .args .mask .now) (s .args .value .now) (s .args .words .now) in
+    refuse-line (s .args .text .now) slices (p5 .if1 .left) (p4 .if2 .left) (p3 .if3 .left) (p2 .if4 .left) (c .before .survey .result .bad) _ _ (c .before .survey .ensures) (c .if5 .taken)
+
+returns-6 : tie.Need-returns-6
+returns-6 c =
+    let p2 = c .before .before in
+    let p3 = p2 .before in
+    let p4 = p3 .before in
+    let p5 = p4 .before in
+    let p6 = p5 .before in
+    let s = p6 .before .before .before .before .before .before .before in
+    let slices = lent (s .args .width .now) (s .args .lock .now) (s .args .mask .now) (s .args .value .now) (s .args .words .now) in
+    refuse-rows (s .args .text .now) slices (p6 .if1 .left) (p5 .if2 .left) (p4 .if3 .left) (p3 .if4 .left) (p2 .survey .result .rows) (p2 .survey .result .records) (p2 .survey .result .bad) (c .before .if5 .left) (p2 .survey .ensures) (c .if6 .taken)
+
+mul-if7 : tie.Need-mul-if7
+mul-if7 c = search needs
+
+returns-7 : tie.Need-returns-7
+returns-7 c =
+    let p2 = c .before .before in
+    let p3 = p2 .before in
+    let p4 = p3 .before in
+    let p5 = p4 .before in
+    let p6 = p5 .before in
+    let p7 = p6 .before in
+    let s = p7 .before .before .before .before .before .before .before in
+    let slices = lent (s .args .width .now) (s .args .lock .now) (s .args .mask .now) (s .args .value .now) (s .args .words .now) in
+    refuse-words (s .args .text .now) slices (p7 .if1 .left) (p6 .if2 .left) (p5 .if3 .left) (p4 .if4 .left) (p3 .survey .result .rows) (p3 .survey .result .records) (p3 .survey .result .bad) (p2 .if5 .left) (p3 .survey .ensures) (c .before .if6 .left) (c .if7 .taken)
+
+fill-rows-requires : tie.Need-fill-rows-requires
+fill-rows-requires c κs =
+    let p5 = c .before .before .before .before .before in
+    let p6 = p5 .before in
+    let p7 = p6 .before in
+    let p8 = p7 .before in
+    let p9 = p8 .before in
+    let p10 = p9 .before in
+    let p11 = p10 .before in
+    let s = p11 .before .before .before .before .before .before .before in
+    let slices = lent (s .args .width .now) (s .args .lock .now) (s .args .mask .now) (s .args .value .now) (s .args .words .now) in
+    rows-wait (s .args .text .now) slices (p11 .if1 .left) (p10 .if2 .left) (p9 .if3 .left) (p8 .if4 .left) (p7 .survey .result .rows) (p7 .survey .result .records) (p7 .survey .result .bad) (p6 .if5 .left) (p7 .survey .ensures) (p5 .if6 .left)
+
+fill-records-requires : tie.Need-fill-records-requires
+fill-records-requires c κs =
+    let p9 = c .before .before .before .before .before .before .before .before .before in
+    let p14 = p9 .before .before .before .before .before in
+    let p15 = p14 .before in
+    let p16 = p15 .before in
+    let p17 = p16 .before in
+    let p18 = p17 .before in
+    let p19 = p18 .before in
+    let p20 = p19 .before in
+    let p21 = p20 .before in
+    let s = p21 .before .before .before .before .before .before .before in
+    let slices = lent (s .args .width .now) (s .args .lock .now) (s .args .mask .now) (s .args .value .now) (s .args .words .now) in
+    records-wait (s .args .text .now) slices (p21 .if1 .left) (p20 .if2 .left) (p19 .if3 .left) (p18 .if4 .left) (p17 .survey .result .rows) (p17 .survey .result .records) (p17 .survey .result .bad) (p16 .if5 .left) (p17 .survey .ensures) (p15 .if6 .left) (p14 .if7 .left) (p9 .fill-rows .ensures)
+
+same-length : tie.Need-same-length
+same-length c = search needs
+
+same-length-2 : tie.Need-same-length-2
+same-length-2 c = search needs
+
+same-length-3 : tie.Need-same-length-3
+same-length-3 c = search needs
+
+same-length-4 : tie.Need-same-length-4
+same-length-4 c = search needs
+
+same-length-5 : tie.Need-same-length-5
+same-length-5 c = search needs
+
+returns-8 : tie.Need-returns-8
+returns-8 c =
+    let p2 = c .before .before in
+    let p12 = p2 .before .before .before .before .before .before .before .before .before .before in
+    let p17 = p12 .before .before .before .before .before in
+    let p18 = p17 .before in
+    let p19 = p18 .before in
+    let p20 = p19 .before in
+    let p21 = p20 .before in
+    let p22 = p21 .before in
+    let p23 = p22 .before in
+    let p24 = p23 .before in
+    let s = p24 .before .before .before .before .before .before .before in
+    let slices = lent (s .args .width .now) (s .args .lock .now) (s .args .mask .now) (s .args .value .now) (s .args .words .now) in
+    accept (s .args .text .now) slices (p24 .if1 .left) (p23 .if2 .left) (p22 .if3 .left) (p21 .if4 .left) (p20 .survey .result .rows) (p20 .survey .result .records) (p20 .survey .result .bad) (p19 .if5 .left) (p20 .survey .ensures) (p18 .if6 .left) (p17 .if7 .left) (p12 .fill-rows .ensures) (p2 .fill-records .ensures)
+
+pub read-spec : {M : Type 1} → statement M
+read-spec =
+    tie.close
+    (tie.spec
+    returns
+    returns-2
+    returns-3
+    returns-4
+    survey-requires
+    returns-5
+    returns-6
+    mul-if7
+    returns-7
+    fill-rows-requires
+    fill-records-requires
+    same-length
+    same-length-2
+    same-length-3
+    same-length-4
+    same-length-5
+    returns-8)

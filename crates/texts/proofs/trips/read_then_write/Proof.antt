@@ -1,0 +1,202 @@
+-- `texts::trips::read_then_write`: what read leaves is what write is given. Assumes nothing.
+use mathlib.Core.Path.{sym}
+use native.Mathlib.Omega.{arith}
+use lib.Seq.{length-take-le}
+use Rattle.tables.specs.Meant.{lent}
+use Rattle.texts.proofs.TripCalls.{read-room, not-read, bytes-trip}
+use borrow.Author.Needs.{needs}
+use Rattle.texts.proofs.trips.read_then_write.Statement.{statement}
+use Rattle.texts.proofs.trips.read_then_write.Tie as tie
+
+read-requires : tie.Need-read-requires
+read-requires c κs = search needs
+
+enum-known-found : tie.Need-enum-known-found
+enum-known-found c = search needs
+
+enum-known-found-2 : tie.Need-enum-known-found-2
+enum-known-found-2 c = search needs
+
+mul-n : tie.Need-mul-n
+mul-n c =
+    let r = c .before .before .before .before .before .before .before .before .before .before .before .before .before in
+    let s = r .before .before .before .before .before .before .before .before .before .before .before .before .before in
+    let slices = lent (s .args .width .now) (s .args .lock .now) (s .args .mask .now) (s .args .value .now) (s .args .words .now) in
+    let left = lent (r .read .last .1 .0) (r .read .last .1 .1 .0) (r .read .last .1 .1 .1 .0) (r .read .last .1 .1 .1 .1 .0) (r .read .last .1 .1 .1 .1 .1 .0) in
+    omega (arith, read-room (s .args .text .now) slices (r .read .result) {new = left} (r .read .ensures) _ _ (c .before .found2 .given .1) .words-hold)
+
+slice-reshare-prefix-write : tie.Need-slice-reshare-prefix-write
+slice-reshare-prefix-write c =
+    let r = c .before .before .before .before .before .before .before .before .before .before .before .before .before in
+    let s = r .before .before .before .before .before .before .before .before .before .before .before .before .before in
+    let slices = lent (s .args .width .now) (s .args .lock .now) (s .args .mask .now) (s .args .value .now) (s .args .words .now) in
+    let left = lent (r .read .last .1 .0) (r .read .last .1 .1 .0) (r .read .last .1 .1 .1 .0) (r .read .last .1 .1 .1 .1 .0) (r .read .last .1 .1 .1 .1 .1 .0) in
+    read-room (s .args .text .now) slices (r .read .result) {new = left} (r .read .ensures) _ _ (c .before .found2 .given .1) .widths-hold
+
+slice-aggregate-write : tie.Need-slice-aggregate-write
+slice-aggregate-write c =
+    let p2 = c .before .before in
+    let r = p2 .before .before .before .before .before .before .before .before .before .before .before .before in
+    let s = r .before .before .before .before .before .before .before .before .before .before .before .before .before in
+    let slices = lent (s .args .width .now) (s .args .lock .now) (s .args .mask .now) (s .args .value .now) (s .args .words .now) in
+    let left = lent (r .read .last .1 .0) (r .read .last .1 .1 .0) (r .read .last .1 .1 .1 .0) (r .read .last .1 .1 .1 .1 .0) (r .read .last .1 .1 .1 .1 .1 .0) in
+    sym (length-take-le _ (r .read .last .1 .0) (read-room (s .args .text .now) slices (r .read .result) {new = left} (r .read .ensures) _ _ (p2 .found2 .given .1) .widths-hold))
+
+slice-reshare-prefix-write-2 : tie.Need-slice-reshare-prefix-write-2
+slice-reshare-prefix-write-2 c =
+    let p2 = c .before .before in
+    let r = p2 .before .before .before .before .before .before .before .before .before .before .before .before in
+    let s = r .before .before .before .before .before .before .before .before .before .before .before .before .before in
+    let slices = lent (s .args .width .now) (s .args .lock .now) (s .args .mask .now) (s .args .value .now) (s .args .words .now) in
+    let left = lent (r .read .last .1 .0) (r .read .last .1 .1 .0) (r .read .last .1 .1 .1 .0) (r .read .last .1 .1 .1 .1 .0) (r .read .last .1 .1 .1 .1 .1 .0) in
+    read-room (s .args .text .now) slices (r .read .result) {new = left} (r .read .ensures) _ _ (p2 .found2 .given .1) .locks-hold
+
+slice-aggregate-write-2 : tie.Need-slice-aggregate-write-2
+slice-aggregate-write-2 c =
+    let p3 = c .before .before .before in
+    let r = p3 .before .before .before .before .before .before .before .before .before .before .before .before in
+    let s = r .before .before .before .before .before .before .before .before .before .before .before .before .before in
+    let slices = lent (s .args .width .now) (s .args .lock .now) (s .args .mask .now) (s .args .value .now) (s .args .words .now) in
+    let left = lent (r .read .last .1 .0) (r .read .last .1 .1 .0) (r .read .last .1 .1 .1 .0) (r .read .last .1 .1 .1 .1 .0) (r .read .last .1 .1 .1 .1 .1 .0) in
+    sym (length-take-le _ (r .read .last .1 .1 .0) (read-room (s .args .text .now) slices (r .read .result) {new = left} (r .read .ensures) _ _ (p3 .found2 .given .1) .locks-hold))
+
+slice-reshare-prefix-write-3 : tie.Need-slice-reshare-prefix-write-3
+slice-reshare-prefix-write-3 c =
+    let p3 = c .before .before .before in
+    let r = p3 .before .before .before .before .before .before .before .before .before .before .before .before in
+    let s = r .before .before .before .before .before .before .before .before .before .before .before .before .before in
+    let slices = lent (s .args .width .now) (s .args .lock .now) (s .args .mask .now) (s .args .value .now) (s .args .words .now) in
+    let left = lent (r .read .last .1 .0) (r .read .last .1 .1 .0) (r .read .last .1 .1 .1 .0) (r .read .last .1 .1 .1 .1 .0) (r .read .last .1 .1 .1 .1 .1 .0) in
+    read-room (s .args .text .now) slices (r .read .result) {new = left} (r .read .ensures) _ _ (p3 .found2 .given .1) .masks-hold
+
+slice-aggregate-write-3 : tie.Need-slice-aggregate-write-3
+slice-aggregate-write-3 c =
+    let p4 = c .before .before .before .before in
+    let r = p4 .before .before .before .before .before .before .before .before .before .before .before .before in
+    let s = r .before .before .before .before .before .before .before .before .before .before .before .before .before in
+    let slices = lent (s .args .width .now) (s .args .lock .now) (s .args .mask .now) (s .args .value .now) (s .args .words .now) in
+    let left = lent (r .read .last .1 .0) (r .read .last .1 .1 .0) (r .read .last .1 .1 .1 .0) (r .read .last .1 .1 .1 .1 .0) (r .read .last .1 .1 .1 .1 .1 .0) in
+    sym (length-take-le _ (r .read .last .1 .1 .1 .0) (read-room (s .args .text .now) slices (r .read .result) {new = left} (r .read .ensures) _ _ (p4 .found2 .given .1) .masks-hold))
+
+slice-reshare-prefix-write-4 : tie.Need-slice-reshare-prefix-write-4
+slice-reshare-prefix-write-4 c =
+    let p4 = c .before .before .before .before in
+    let r = p4 .before .before .before .before .before .before .before .before .before .before .before .before in
+    let s = r .before .before .before .before .before .before .before .before .before .before .before .before .before in
+    let slices = lent (s .args .width .now) (s .args .lock .now) (s .args .mask .now) (s .args .value .now) (s .args .words .now) in
+    let left = lent (r .read .last .1 .0) (r .read .last .1 .1 .0) (r .read .last .1 .1 .1 .0) (r .read .last .1 .1 .1 .1 .0) (r .read .last .1 .1 .1 .1 .1 .0) in
+    read-room (s .args .text .now) slices (r .read .result) {new = left} (r .read .ensures) _ _ (p4 .found2 .given .1) .values-hold
+
+slice-aggregate-write-4 : tie.Need-slice-aggregate-write-4
+slice-aggregate-write-4 c =
+    let p5 = c .before .before .before .before .before in
+    let r = p5 .before .before .before .before .before .before .before .before .before .before .before .before in
+    let s = r .before .before .before .before .before .before .before .before .before .before .before .before .before in
+    let slices = lent (s .args .width .now) (s .args .lock .now) (s .args .mask .now) (s .args .value .now) (s .args .words .now) in
+    let left = lent (r .read .last .1 .0) (r .read .last .1 .1 .0) (r .read .last .1 .1 .1 .0) (r .read .last .1 .1 .1 .1 .0) (r .read .last .1 .1 .1 .1 .1 .0) in
+    sym (length-take-le _ (r .read .last .1 .1 .1 .1 .0) (read-room (s .args .text .now) slices (r .read .result) {new = left} (r .read .ensures) _ _ (p5 .found2 .given .1) .values-hold))
+
+slice-reshare-prefix-write-5 : tie.Need-slice-reshare-prefix-write-5
+slice-reshare-prefix-write-5 c =
+    let p5 = c .before .before .before .before .before in
+    let r = p5 .before .before .before .before .before .before .before .before .before .before .before .before in
+    let s = r .before .before .before .before .before .before .before .before .before .before .before .before .before in
+    let slices = lent (s .args .width .now) (s .args .lock .now) (s .args .mask .now) (s .args .value .now) (s .args .words .now) in
+    let left = lent (r .read .last .1 .0) (r .read .last .1 .1 .0) (r .read .last .1 .1 .1 .0) (r .read .last .1 .1 .1 .1 .0) (r .read .last .1 .1 .1 .1 .1 .0) in
+    read-room (s .args .text .now) slices (r .read .result) {new = left} (r .read .ensures) _ _ (p5 .found2 .given .1) .words-hold
+
+slice-aggregate-write-5 : tie.Need-slice-aggregate-write-5
+slice-aggregate-write-5 c =
+    let p6 = c .before .before .before .before .before .before in
+    let r = p6 .before .before .before .before .before .before .before .before .before .before .before .before in
+    let s = r .before .before .before .before .before .before .before .before .before .before .before .before .before in
+    let slices = lent (s .args .width .now) (s .args .lock .now) (s .args .mask .now) (s .args .value .now) (s .args .words .now) in
+    let left = lent (r .read .last .1 .0) (r .read .last .1 .1 .0) (r .read .last .1 .1 .1 .0) (r .read .last .1 .1 .1 .1 .0) (r .read .last .1 .1 .1 .1 .1 .0) in
+    sym (length-take-le _ (r .read .last .1 .1 .1 .1 .1 .0) (read-room (s .args .text .now) slices (r .read .result) {new = left} (r .read .ensures) _ _ (p6 .found2 .given .1) .words-hold))
+
+write-requires : tie.Need-write-requires
+write-requires c κs = search needs
+
+same-length : tie.Need-same-length
+same-length c = search needs
+
+same-length-2 : tie.Need-same-length-2
+same-length-2 c = search needs
+
+same-length-3 : tie.Need-same-length-3
+same-length-3 c = search needs
+
+same-length-4 : tie.Need-same-length-4
+same-length-4 c = search needs
+
+same-length-5 : tie.Need-same-length-5
+same-length-5 c = search needs
+
+returns : tie.Need-returns
+returns c =
+    let r = c .before .before .before .before .before .before .before .before .before .before .before .before .before in
+    let s = r .before .before .before .before .before .before .before .before .before .before .before .before .before in
+    let slices = lent (s .args .width .now) (s .args .lock .now) (s .args .mask .now) (s .args .value .now) (s .args .words .now) in
+    let left = lent (r .read .last .1 .0) (r .read .last .1 .1 .0) (r .read .last .1 .1 .1 .0) (r .read .last .1 .1 .1 .1 .0) (r .read .last .1 .1 .1 .1 .1 .0) in
+    not-read (s .args .text .now) slices (r .read .result) {new = left} (r .read .ensures) _ (c .before .found .given .1) _ _
+
+same-length-6 : tie.Need-same-length-6
+same-length-6 c = search needs
+
+same-length-7 : tie.Need-same-length-7
+same-length-7 c = search needs
+
+same-length-8 : tie.Need-same-length-8
+same-length-8 c = search needs
+
+same-length-9 : tie.Need-same-length-9
+same-length-9 c = search needs
+
+same-length-10 : tie.Need-same-length-10
+same-length-10 c = search needs
+
+same-length-11 : tie.Need-same-length-11
+same-length-11 c = search needs
+
+returns-2 : tie.Need-returns-2
+returns-2 c =
+    let p2 = c .before .before in
+    let p10 = p2 .before .before .before .before .before .before .before .before in
+    let r = p10 .before .before .before .before .before .before .before .before .before .before .before .before in
+    let s = r .before .before .before .before .before .before .before .before .before .before .before .before .before in
+    let slices = lent (s .args .width .now) (s .args .lock .now) (s .args .mask .now) (s .args .value .now) (s .args .words .now) in
+    let left = lent (r .read .last .1 .0) (r .read .last .1 .1 .0) (r .read .last .1 .1 .1 .0) (r .read .last .1 .1 .1 .1 .0) (r .read .last .1 .1 .1 .1 .1 .0) in
+    bytes-trip (s .args .text .now) slices (r .read .result) {new = left} (r .read .ensures) _ _ (p10 .found2 .given .1) (s .args .out .now) _ (p2 .write .ensures)
+
+pub read-then-write-spec : {M : Type 1} → statement M
+read-then-write-spec =
+    tie.close
+    (tie.spec
+    read-requires
+    enum-known-found
+    enum-known-found-2
+    mul-n
+    slice-reshare-prefix-write
+    slice-aggregate-write
+    slice-reshare-prefix-write-2
+    slice-aggregate-write-2
+    slice-reshare-prefix-write-3
+    slice-aggregate-write-3
+    slice-reshare-prefix-write-4
+    slice-aggregate-write-4
+    slice-reshare-prefix-write-5
+    slice-aggregate-write-5
+    write-requires
+    same-length
+    same-length-2
+    same-length-3
+    same-length-4
+    same-length-5
+    returns
+    same-length-6
+    same-length-7
+    same-length-8
+    same-length-9
+    same-length-10
+    same-length-11
+    returns-2)

@@ -1,0 +1,98 @@
+-- What size, write and read answer and leave (01, "Calls" and "Who can cause a refusal").
+--   sizeOf t                     size's answer
+--   Written, writeOf t out       write's answer, and the buffer that it leaves
+--   readChecks text lent         what read refuses, in order, each condition by name
+--   Counts, countsOf t           how many rows and records
+--   ReadBack, readOf text lent   read's answer, and the five slices that it leaves
+use mathlib.Core.Bool.{Bool, false, not}
+use mathlib.Core.List.{List, [], _∷_, _++_}
+use Prim.Native.Nat.{ℕ}
+use lib.Dec.{ltb, eqb}
+use lib.ListN.{length}
+use Rattle.operations.specs.Record.{fault}
+use Rattle.tables.specs.Check.{Answer, done, refused, Check, verdict, placed}
+use Rattle.tables.specs.Table.{Table, recordCount}
+use Rattle.tables.specs.Checks.{sizeBound, sizeChecks, writeChecks, locksDiffer, masksDiffer, valuesDiffer}
+use Rattle.grammar.specs.Limits.{textLimit}
+use Rattle.grammar.specs.Lists.{filled}
+use Rattle.grammar.specs.Print.{textOf}
+use Rattle.grammar.specs.Lines.{linesIn, firstBad, tableRead}
+
+-- "44 × rows + 24 × records, a number of bytes the text doesn't exceed"
+unfoldable pub sizeOf : Table → Answer ℕ
+sizeOf t = verdict (sizeChecks t) (sizeBound t)
+
+pub record Written : Type 0 where
+  pub answer : Answer ℕ
+  pub buffer : List ℕ
+
+-- "Write answers the text's byte count and leaves the buffer's rest."
+abbrev pub writtenAs : Answer ℕ → Table → List ℕ → Written
+writtenAs (done n) t out = record { answer = done n; buffer = filled (textOf t) out }
+writtenAs (refused number place) t out = record { answer = refused number place; buffer = out }
+
+unfoldable pub writeOf : Table → List ℕ → Written
+writeOf t out = writtenAs (verdict (writeChecks t (length out)) (length (textOf t))) t out
+
+-- ---- read
+
+-- 2: the four row slices differ in length
+abbrev pub lentChecks : Table → List Check
+lentChecks lent = placed 0 (fault (locksDiffer lent) 2 ∷ fault (masksDiffer lent) 2 ∷ fault (valuesDiffer lent) 2 ∷ [])
+
+-- 11: over 40,000 bytes
+abbrev pub textOver : List ℕ → Bool
+textOver text = ltb textLimit (length text)
+
+abbrev pub lengthChecks : List ℕ → List Check
+lengthChecks text = placed 0 (fault (textOver text) 11 ∷ [])
+
+-- 12: the first bad line, from 1, is its place
+abbrev pub badLine : List ℕ → ℕ
+badLine text = firstBad false 1 (linesIn text)
+
+abbrev pub lineChecks : List ℕ → List Check
+lineChecks text = placed (badLine text) (fault (not (eqb (badLine text) 0)) 12 ∷ [])
+
+-- 13: row lines or record words exceed the lent slices
+abbrev pub rowsExceed : Table → Table → Bool
+rowsExceed new lent = ltb (length (lent .widths)) (length (new .widths))
+
+abbrev pub wordsExceed : Table → Table → Bool
+wordsExceed new lent = ltb (length (lent .words)) (length (new .words))
+
+abbrev pub roomChecks : Table → Table → List Check
+roomChecks new lent = placed 0 (fault (rowsExceed new lent) 13 ∷ fault (wordsExceed new lent) 13 ∷ [])
+
+-- "read 2, 11, 12, 13"
+unfoldable pub readChecks : List ℕ → Table → List Check
+readChecks text lent = lentChecks lent ++ lengthChecks text ++ lineChecks text ++ roomChecks (tableRead text) lent
+
+pub record Counts : Type 0 where
+  pub rows : ℕ
+  pub records : ℕ
+
+abbrev pub countsOf : Table → Counts
+countsOf t = record { rows = length (t .widths); records = recordCount t }
+
+pub record ReadBack : Type 0 where
+  pub answer : Answer Counts
+  pub slices : Table
+
+abbrev pub filledWith : Table → Table → Table
+filledWith new lent =
+    record {
+      widths = filled (new .widths) (lent .widths);
+      locks = filled (new .locks) (lent .locks);
+      masks = filled (new .masks) (lent .masks);
+      values = filled (new .values) (lent .values);
+      words = filled (new .words) (lent .words);
+    }
+
+-- "Read fills from the start of the lent slices, answers both counts and leaves the rest."
+abbrev pub readAs : Answer Counts → Table → Table → ReadBack
+readAs (done counts) new lent = record { answer = done counts; slices = filledWith new lent }
+readAs (refused number place) new lent = record { answer = refused number place; slices = lent }
+
+unfoldable pub readOf : List ℕ → Table → ReadBack
+readOf text lent = readAs (verdict (readChecks text lent) (countsOf (tableRead text))) (tableRead text) lent

@@ -1,0 +1,5 @@
+pub mod Calls
+pub mod Trips
+pub mod Meant
+pub mod Fill
+pub mod Print

@@ -1,0 +1,41 @@
+-- The round trips through the text (demand 2), as statements about what the calls leave.
+--   Roomy t lent                the lent slices are long enough for the table t
+--   TableBack t out lent got    got is what read leaves of the slices lent, on the text that write put into out: that table, the rest untouched
+--   firstOf c t                 the first rows and records of slices, as many as c counts
+--   BytesBack text lent out got got is what write leaves of out, on the table that read put into the slices lent: those bytes, the rest untouched
+use mathlib.Core.Path.{_≡_}
+use mathlib.Core.List.{List}
+use Prim.Native.Nat.{ℕ, _*_, _≤_}
+use lib.ListN.{length, take}
+use Rattle.operations.specs.Limits.{recordWords}
+use Rattle.tables.specs.Check.{done}
+use Rattle.tables.specs.Table.{Table}
+use Rattle.grammar.specs.Lists.{filled}
+use Rattle.texts.specs.Calls.{Written, writeOf, Counts, countsOf, ReadBack, filledWith, readOf}
+
+pub record Roomy (t lent : Table) : Type 0 where
+  pub locks-same : length (lent .locks) ≡ length (lent .widths)
+  pub masks-same : length (lent .masks) ≡ length (lent .widths)
+  pub values-same : length (lent .values) ≡ length (lent .widths)
+  pub rows-hold : length (t .widths) ≤ length (lent .widths)
+  pub words-hold : length (t .words) ≤ length (lent .words)
+
+-- a table that is written, and slices long enough
+abbrev pub TableBack : Table → List ℕ → Table → ReadBack → Type 0
+TableBack t out lent got = (n : ℕ) → writeOf t out .answer ≡ done n → Roomy t lent → got ≡ record { answer = done (countsOf t); slices = filledWith t lent }
+
+abbrev pub firstOf : Counts → Table → Table
+firstOf c t =
+    record {
+      widths = take (c .rows) (t .widths);
+      locks = take (c .rows) (t .locks);
+      masks = take (c .rows) (t .masks);
+      values = take (c .rows) (t .values);
+      words = take (recordWords * c .records) (t .words);
+    }
+
+-- a text that is read, and whose table is written
+abbrev pub BytesBack : List ℕ → Table → List ℕ → Written → Type 0
+BytesBack text lent out got =
+    (c : Counts) → readOf text lent .answer ≡ done c → (n : ℕ) → writeOf (firstOf c (readOf text lent .slices)) out .answer ≡ done n
+    → got ≡ record { answer = done (length text); buffer = filled text out }

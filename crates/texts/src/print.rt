@@ -1,0 +1,61 @@
+// Writing the lines of a table into a lent buffer (01, "Text": all row lines, then record lines).
+ghost use mathlib.Core.Path.{_≡_};
+ghost use mathlib.Core.List.{[]};
+ghost use Rattle.tables.specs.Meant.{lent};
+ghost use Rattle.grammar.specs.Print.{linesText, rowLines, recordLines};
+ghost use Rattle.lines.specs.Put.{Holds, Put};
+ghost use Rattle.texts.specs.Print.{RowsFit, RecordsFit};
+use crate::limits::RECORD_WORDS;
+use lines::put::put_record;
+use lines::put::put_row;
+
+fn wide(b: u8) -> u32
+    ensures { λ r. ⌜ r ≡ b ⌝ }
+{
+    b as u32
+}
+
+// Writes the row lines of a table.
+pub fn put_rows(out: &mut [u8], width: &[u8], lock: &[u8], mask: &[u32], value: &[u32]) -> usize
+    requires { ⌜ RowsFit (now width) (now lock) (now mask) (now value) × Holds (now out) 0 (linesText (rowLines (lent (now width) (now lock) (now mask) (now value) []))) ⌝ }
+    ensures { λ r. ⌜ Put (now (out .entry)) (now (out .exit)) 0 r (linesText (rowLines (lent (now (width .entry)) (now (lock .entry)) (now (mask .entry)) (now (value .entry)) []))) ⌝ }
+{
+    let n = width.len();
+    let mut at: usize = 0;
+    let mut i: usize = 0;
+    while i < n {
+        at = put_row(out, at, lock[i], wide(width[i]), mask[i], value[i]);
+        i += 1;
+    }
+    at
+}
+
+fn index(x: u32) -> usize
+    ensures { λ r. ⌜ r ≡ x ⌝ }
+{
+    x as usize
+}
+
+// Writes the record lines of a table from `from` on.
+pub fn put_records(out: &mut [u8], from: usize, words: &[u32]) -> usize
+    requires { ⌜ RecordsFit (now words) × Holds (now out) from (linesText (recordLines (lent [] [] [] [] (now words)))) ⌝ }
+    ensures { λ r. ⌜ Put (now (out .entry)) (now (out .exit)) from r (linesText (recordLines (lent [] [] [] [] (now (words .entry))))) ⌝ }
+{
+    let n = words.len() / RECORD_WORDS;
+    let mut at = from;
+    let mut i: usize = 0;
+    while i < n {
+        let j = RECORD_WORDS * i;
+        at = put_record(
+            out,
+            at,
+            index(words[j]),
+            index(words[j + 1]),
+            index(words[j + 2]),
+            index(words[j + 3]),
+            index(words[j + 4]),
+        );
+        i += 1;
+    }
+    at
+}

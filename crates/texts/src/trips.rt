@@ -1,0 +1,61 @@
+// The round trips through the text over the calls themselves (demand 2): each contract is the round trip.
+ghost use Rattle.tables.specs.Meant.{lent};
+ghost use Rattle.texts.specs.Trips.{TableBack, BytesBack};
+ghost use Rattle.texts.specs.Meant.{writeLeft, readLeft};
+use crate::BytesAnswer;
+use crate::ReadAnswer;
+use crate::limits::RECORD_WORDS;
+use crate::read;
+use crate::write;
+
+// A table that is written into `out` is read back from there into other slices.
+fn write_then_read(
+    width: &[u8],
+    lock: &[u8],
+    mask: &[u32],
+    value: &[u32],
+    words: &[u32],
+    out: &mut [u8],
+    widths: &mut [u8],
+    locks: &mut [u8],
+    masks: &mut [u32],
+    values: &mut [u32],
+    records: &mut [u32],
+) -> ReadAnswer
+    ensures { λ r. ⌜ TableBack (lent (now (width .entry)) (now (lock .entry)) (now (mask .entry)) (now (value .entry)) (now (words .entry))) (now (out .entry)) (lent (now (widths .entry)) (now (locks .entry)) (now (masks .entry)) (now (values .entry)) (now (records .entry))) (readLeft r (lent (now (widths .exit)) (now (locks .exit)) (now (masks .exit)) (now (values .exit)) (now (records .exit)))) ⌝ }
+{
+    let written = write(width, lock, mask, value, words, out);
+    match written {
+        BytesAnswer::Refused(r) => ReadAnswer::Refused(r),
+        BytesAnswer::Bytes(n) => read(&out[..n], widths, locks, masks, values, records),
+    }
+}
+
+// A text that is read into the slices is written back from there into `out`.
+fn read_then_write(
+    text: &[u8],
+    width: &mut [u8],
+    lock: &mut [u8],
+    mask: &mut [u32],
+    value: &mut [u32],
+    words: &mut [u32],
+    out: &mut [u8],
+) -> BytesAnswer
+    ensures { λ r. ⌜ BytesBack (now (text .entry)) (lent (now (width .entry)) (now (lock .entry)) (now (mask .entry)) (now (value .entry)) (now (words .entry))) (now (out .entry)) (writeLeft r (now (out .exit))) ⌝ }
+{
+    let found = read(text, width, lock, mask, value, words);
+    match found {
+        ReadAnswer::Refused(r) => BytesAnswer::Refused(r),
+        ReadAnswer::Read(rows, records) => {
+            let n = RECORD_WORDS * records;
+            write(
+                &width[..rows],
+                &lock[..rows],
+                &mask[..rows],
+                &value[..rows],
+                &words[..n],
+                out,
+            )
+        }
+    }
+}
