@@ -1,0 +1,72 @@
+-- What `evaluate` prints for a text (01, "Text"): "runs all records and prints the whole table, or one line of three fields".
+--   heldRows, heldRecords   how many rows and records it holds;   outputRoom   bytes that its output never exceeds
+--   Printed bytes r old new the bytes are counted by r and put into the buffer
+--   refusedLine n i         the line of a refusal: its number and its place
+--   printedRun t r          what run's outcome r on the table t prints
+--   printedTable t          all records of the table t run, and what that prints
+--   evaluateIn text lent    read into the slices lent, then that;   evaluateOf text   with the slices that the program has
+use mathlib.Core.Path.{_≡_}
+use mathlib.Core.List.{List, [], _∷_, _++_}
+use Prim.Native.Nat.{ℕ, _+_, _*_}
+use lib.ListN.{length, replicate}
+use Rattle.operations.specs.Limits.{recordWords}
+use Rattle.tables.specs.Limits.{rowLimit, recordLimit, rowBytes, recordBytes}
+use Rattle.tables.specs.Check.{Answer, done, refused}
+use Rattle.tables.specs.Table.{Table, withRows, recordCount}
+use Rattle.tables.specs.Run.{Ran, runOf}
+use Rattle.grammar.specs.Lists.{filled}
+use Rattle.grammar.specs.Words.{bytes, lf, tab}
+use Rattle.grammar.specs.Print.{decimal, joined, textOf}
+use Rattle.grammar.specs.Lines.{tableRead}
+use Rattle.texts.specs.Calls.{Counts, readOf}
+
+-- the bytes are counted by r, and stand in the buffer from its start, its rest left
+pub record Printed (bytes : List ℕ) (r : ℕ) (old new : List ℕ) : Type 0 where
+  pub count : r ≡ length bytes
+  pub buffer : new ≡ filled bytes old
+
+-- "It holds 256 rows and 1,024 records."
+
+abbrev pub heldRows : ℕ
+heldRows = rowLimit
+
+abbrev pub heldRecords : ℕ
+heldRecords = recordLimit
+
+abbrev pub outputRoom : ℕ
+outputRoom = rowBytes * heldRows + recordBytes * heldRecords
+
+abbrev pub refusedWord : List ℕ
+refusedWord = bytes "refused"
+
+-- "one line of three fields: `refused`, number, place"
+unfoldable pub refusedLine : ℕ → ℕ → List ℕ
+refusedLine n i = joined tab (refusedWord ∷ decimal n ∷ decimal i ∷ []) ++ lf ∷ []
+
+abbrev pub printedRun : Table → Ran → Answer ℕ → List ℕ
+printedRun t r (done last) = textOf (withRows t (r .rows))
+printedRun t r (refused n i) = refusedLine n i
+
+-- "runs all records and prints the whole table"
+unfoldable pub printedTable : Table → List ℕ
+printedTable t = printedRun t (runOf t 0 (recordCount t)) (runOf t 0 (recordCount t) .answer)
+
+abbrev pub printedRead : List ℕ → Answer Counts → List ℕ
+printedRead text (done counts) = printedTable (tableRead text)
+printedRead text (refused n i) = refusedLine n i
+
+unfoldable pub evaluateIn : List ℕ → Table → List ℕ
+evaluateIn text lent = printedRead text (readOf text lent .answer)
+
+abbrev pub heldSlices : Table
+heldSlices =
+    record {
+      widths = replicate heldRows 0;
+      locks = replicate heldRows 0;
+      masks = replicate heldRows 0;
+      values = replicate heldRows 0;
+      words = replicate (recordWords * heldRecords) 0;
+    }
+
+unfoldable pub evaluateOf : List ℕ → List ℕ
+evaluateOf text = evaluateIn text heldSlices

@@ -1,0 +1,100 @@
+// From a text to what `evaluate` prints (01, "Text").
+ghost use Prim.Native.Nat.{_≤_};
+ghost use lib.ListN.{length};
+ghost use Rattle.tables.specs.Meant.{lent};
+ghost use Rattle.evaluation.specs.Evaluate.{Printed, outputRoom, refusedLine, printedTable, evaluateIn, evaluateOf};
+use lines::put::put_number;
+use lines::put::put_word;
+use tables::RunAnswer;
+use tables::run;
+use texts::BytesAnswer;
+use texts::ReadAnswer;
+use texts::read;
+use texts::write;
+
+// The line of a refusal, put into the buffer from its start; its bytes are counted.
+fn put_refusal(out: &mut [u8], number: u32, place: usize) -> usize
+    requires { ⌜ outputRoom ≤ length (now out) ⌝ }
+    ensures { λ r. ⌜ Printed (refusedLine number place) r (now (out .entry)) (now (out .exit)) ⌝ }
+{
+    let after_word = put_word(out, 0, b"refused\t");
+    let after_number = put_number(out, after_word, number as usize);
+    let after_tab = put_word(out, after_number, b"\t");
+    let after_place = put_number(out, after_tab, place);
+    put_word(out, after_place, b"\n")
+}
+
+// All records of the lent table run, and the whole table or the refusal's line put into the buffer; its bytes are counted.
+fn print_table(
+    width: &[u8],
+    lock: &[u8],
+    mask: &mut [u32],
+    value: &mut [u32],
+    words: &[u32],
+    out: &mut [u8],
+) -> usize
+    requires { ⌜ outputRoom ≤ length (now out) ⌝ }
+    ensures { λ r. ⌜ Printed (printedTable (lent (now (width .entry)) (now (lock .entry)) (now (mask .entry)) (now (value .entry)) (now (words .entry)))) r (now (out .entry)) (now (out .exit)) ⌝ }
+{
+    let last = words.len() / 5;
+    match run(width, lock, mask, value, words, 0, last) {
+        RunAnswer::Refused(r) => {
+            return put_refusal(out, r.number, r.place);
+        }
+        RunAnswer::Done(_) => {}
+    }
+    match write(width, lock, mask, value, words, out) {
+        BytesAnswer::Bytes(n) => n,
+        BytesAnswer::Refused(r) => put_refusal(out, r.number, r.place),
+    }
+}
+
+// The text read into the lent slices, its records run, and what that prints put into the buffer; its bytes are counted.
+fn evaluate_in(
+    text: &[u8],
+    width: &mut [u8],
+    lock: &mut [u8],
+    mask: &mut [u32],
+    value: &mut [u32],
+    words: &mut [u32],
+    out: &mut [u8],
+) -> usize
+    requires { ⌜ outputRoom ≤ length (now out) ⌝ }
+    ensures { λ r. ⌜ Printed (evaluateIn (now (text .entry)) (lent (now (width .entry)) (now (lock .entry)) (now (mask .entry)) (now (value .entry)) (now (words .entry)))) r (now (out .entry)) (now (out .exit)) ⌝ }
+{
+    match read(text, width, lock, mask, value, words) {
+        ReadAnswer::Refused(r) => put_refusal(out, r.number, r.place),
+        ReadAnswer::Read(rows, records) => {
+            let n = 5 * records;
+            print_table(
+                &width[..rows],
+                &lock[..rows],
+                &mut mask[..rows],
+                &mut value[..rows],
+                &words[..n],
+                out,
+            )
+        }
+    }
+}
+
+// What `evaluate` prints for a text, put into the buffer from its start; its bytes are counted.
+pub fn evaluate_text(text: &[u8], out: &mut [u8]) -> usize
+    requires { ⌜ outputRoom ≤ length (now out) ⌝ }
+    ensures { λ r. ⌜ Printed (evaluateOf (now (text .entry))) r (now (out .entry)) (now (out .exit)) ⌝ }
+{
+    let mut width = [0u8; 256];
+    let mut lock = [0u8; 256];
+    let mut mask = [0u32; 256];
+    let mut value = [0u32; 256];
+    let mut words = [0u32; 5120];
+    evaluate_in(
+        text,
+        &mut width,
+        &mut lock,
+        &mut mask,
+        &mut value,
+        &mut words,
+        out,
+    )
+}
