@@ -1,0 +1,2 @@
+-- What the contracts of `enumeration` cite.
+pub mod Sizes

@@ -1,0 +1,94 @@
+// The unstarred examples that need no text (01, "Worked examples").
+use crate::choices::Row;
+use crate::counting::Tally;
+use crate::counting::joined;
+use crate::counting::none;
+use crate::counting::one;
+use crate::shapes::Shape;
+use crate::trials::Rows;
+use crate::trials::answers;
+use crate::trials::makes;
+
+// A row's mask and value.
+fn row(mask: u32, value: u32) -> Row {
+    Row {
+        mask: mask,
+        value: value,
+    }
+}
+
+// A first operand and a target, and zeros.
+fn rows(a: Row, t: Row) -> Rows {
+    let zero = row(0, 0);
+    Rows {
+        a: a,
+        b: zero,
+        c: zero,
+        t: t,
+    }
+}
+
+// Whether a record of one width whose operand words name row 0, which is a, makes the target's row end of start, or is refused with this number where it
+// is not 0.
+fn gives(kind: u64, w: u64, p: u64, a: Row, start: Row, end: Row, number: u32) -> Tally {
+    let s = Shape {
+        kind: kind,
+        wt: w,
+        wa: w,
+        wb: 1,
+        p: p,
+    };
+    one(makes(s, 0, rows(a, start), rows(a, end), number))
+}
+
+// rotl 0X1 by 4 = X10.
+fn rotl_by_four() -> Tally {
+    gives(8, 3, 4, row(0b010, 0b001), row(0, 0), row(0b100, 0b010), 0)
+}
+
+// ashr X0 by 31 = XX.
+fn ashr_by_most() -> Tally {
+    gives(7, 2, 31, row(0b10, 0b00), row(0, 0), row(0b11, 0b00), 0)
+}
+
+// Parameter 32: refusal 8, and the rows stay.
+fn parameter_over(kind: u64) -> Tally {
+    let target = row(0b100, 0b010);
+    gives(kind, 3, 32, row(0b010, 0b001), target, target, 8)
+}
+
+// Parameter 32 for each shift, rotation and extract.
+fn parameters_over() -> Tally {
+    let mut tally = none();
+    let mut kind: u64 = 5;
+    while kind <= 9 {
+        tally = joined(tally, parameter_over(kind));
+        kind += 1;
+    }
+    tally
+}
+
+// xor of a row X with itself = X; sub of it likewise, since both operands are chosen independently.
+fn with_itself(kind: u64) -> Tally {
+    let x = row(1, 0);
+    gives(kind, 1, 0, x, row(0, 0), x, 0)
+}
+
+// 256 rows accepted.
+fn most_rows() -> Tally {
+    let width = [1u8; 256];
+    let lock = [0u8; 256];
+    let mut mask = [1u32; 256];
+    let mut value = [0u32; 256];
+    let words = [0u32, 255, 0, 0, 0];
+    let answer = tables::run(&width, &lock, &mut mask, &mut value, &words, 0, 1);
+    one(answers(answer, 0))
+}
+
+// The examples tried, and those that disagree.
+pub fn examples() -> Tally {
+    let mut tally = joined(rotl_by_four(), ashr_by_most());
+    tally = joined(tally, parameters_over());
+    tally = joined(tally, joined(with_itself(4), with_itself(14)));
+    joined(tally, most_rows())
+}

@@ -1,0 +1,56 @@
+// Kinds, widths and parameters that fit together (01, "Records").
+ghost use Rattle.enumeration.specs.Sizes.{Sized};
+
+// A record's kind and parameter, and the widths of the target, the first and the second operand.
+pub struct Shape {
+    pub kind: u64,
+    pub wt: u64,
+    pub wa: u64,
+    pub wb: u64,
+    pub p: u64,
+}
+
+// Whether the kind uses a second operand.
+pub fn uses_second(kind: u64) -> bool {
+    match kind {
+        2..=4 | 10 | 13..=14 | 16..=20 => true,
+        _ => false,
+    }
+}
+
+// Whether the kind uses a condition, row 2.
+pub fn uses_condition(kind: u64) -> bool {
+    kind == 20
+}
+
+// Whether the widths are the kind's. A second operand that it does not use has width 1.
+fn widths_fit(s: Shape) -> bool
+    requires { ⌜ Sized (s .wt) (s .wa) (s .wb) (s .p) ⌝ }
+{
+    let kind = s.kind;
+    match kind {
+        2..=4 | 13..=14 | 16 | 20 => s.wt == s.wa && s.wb == s.wa,
+        9 => s.p + s.wt <= s.wa && s.wb == 1,
+        10 => s.wt == s.wa + s.wb,
+        11 | 12 => s.wt >= s.wa && s.wb == 1,
+        17..=19 => s.wt == 1 && s.wb == s.wa,
+        _ => s.wt == s.wa && s.wb == 1,
+    }
+}
+
+// Whether the parameter is the kind's: any number of places, the condition's row, or 0.
+fn parameter_fits(s: Shape) -> bool {
+    let kind = s.kind;
+    match kind {
+        5..=9 => true,
+        20 => s.p == 2,
+        _ => s.p == 0,
+    }
+}
+
+// Whether the widths and the parameter are the kind's.
+pub fn fits(s: Shape) -> bool
+    requires { ⌜ Sized (s .wt) (s .wa) (s .wb) (s .p) ⌝ }
+{
+    parameter_fits(s) && widths_fit(s)
+}

@@ -1,0 +1,124 @@
+// All tables of a kind: every width, parameter and vector.
+ghost use Prim.Native.Nat.{_≤_, _<_};
+ghost use Rattle.enumeration.specs.Sizes.{Sized};
+use crate::choices::Row;
+use crate::counting::Tally;
+use crate::counting::joined;
+use crate::counting::none;
+use crate::counting::one;
+use crate::numbers::power;
+use crate::numbers::word;
+use crate::shapes::Shape;
+use crate::shapes::fits;
+use crate::shapes::uses_condition;
+use crate::shapes::uses_second;
+use crate::trials::agrees;
+
+// How many pairs of numbers below 2^w there are: 4^w. One where the row is not used.
+fn pairs(used: bool, w: u64) -> u64
+    requires { ⌜ w ≤ 4 ⌝ }
+    ensures { λ r. ⌜ r ≤ 4294967296 ⌝ }
+{
+    if !used {
+        return 1;
+    }
+    power(2 * w)
+}
+
+// Pair n of two numbers below 2^w, as a mask and a value.
+fn pair(w: u64, n: u64) -> Row
+    requires { ⌜ w ≤ 4 ⌝ }
+{
+    let low = power(w);
+    Row {
+        mask: word(n / low),
+        value: word(n % low),
+    }
+}
+
+// Whether mask and value share no set bit.
+fn well_formed(row: Row) -> bool {
+    row.mask & row.value == 0
+}
+
+// Every condition, where the kind uses one.
+fn each_condition(s: Shape, a: Row, b: Row) -> Tally
+    requires { ⌜ Sized (s .wt) (s .wa) (s .wb) (s .p) ⌝ }
+{
+    let end = pairs(uses_condition(s.kind), 1);
+    let mut tally = none();
+    let mut n: u64 = 0;
+    while n < end {
+        let c = pair(1, n);
+        if well_formed(c) {
+            tally = joined(tally, one(agrees(s, a, b, c)));
+        }
+        n += 1;
+    }
+    tally
+}
+
+// Every second operand, where the kind uses one.
+fn each_second(s: Shape, a: Row) -> Tally
+    requires { ⌜ Sized (s .wt) (s .wa) (s .wb) (s .p) ⌝ }
+    requires { ⌜ s .wb ≤ 4 ⌝ }
+{
+    let end = pairs(uses_second(s.kind), s.wb);
+    let mut tally = none();
+    let mut n: u64 = 0;
+    while n < end {
+        let b = pair(s.wb, n);
+        if well_formed(b) {
+            tally = joined(tally, each_condition(s, a, b));
+        }
+        n += 1;
+    }
+    tally
+}
+
+// Every first operand.
+fn each_first(s: Shape) -> Tally
+    requires { ⌜ Sized (s .wt) (s .wa) (s .wb) (s .p) ⌝ }
+    requires { ⌜ (s .wa ≤ 4) × (s .wb ≤ 4) ⌝ }
+{
+    let end = pairs(true, s.wa);
+    let mut tally = none();
+    let mut n: u64 = 0;
+    while n < end {
+        let a = pair(s.wa, n);
+        if well_formed(a) {
+            tally = joined(tally, each_second(s, a));
+        }
+        n += 1;
+    }
+    tally
+}
+
+// Shape n of a kind: four widths of each operand, 32 of the target, 32 parameters.
+fn shape(kind: u64, n: u64) -> Shape
+    requires { ⌜ n < 16384 ⌝ }
+    ensures { λ r. ⌜ Sized (r .wt) (r .wa) (r .wb) (r .p) ⌝ }
+    ensures { λ r. ⌜ (r .wa ≤ 4) × (r .wb ≤ 4) ⌝ }
+{
+    Shape {
+        kind: kind,
+        wt: n / 32 % 32 + 1,
+        wa: n / 4096 + 1,
+        wb: n / 1024 % 4 + 1,
+        p: n % 32,
+    }
+}
+
+// Every table of a kind.
+pub fn sweep(kind: u64) -> Tally {
+    let mut tally = none();
+    let mut n: u64 = 0;
+    while n < 16384 {
+        let s = shape(kind, n);
+        if fits(s) {
+            tally = joined(tally, each_first(s));
+        }
+        n += 1;
+    }
+    tally
+}
