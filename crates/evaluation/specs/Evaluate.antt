@@ -15,7 +15,8 @@ use Rattle.tables.specs.Check.{Answer, done, refused}
 use Rattle.tables.specs.Table.{Table, withRows, recordCount}
 use Rattle.tables.specs.Run.{Ran, runOf}
 use Rattle.grammar.specs.Lists.{filled}
-use Rattle.grammar.specs.Words.{bytes, lf, tab}
+use Rattle.operations.specs.Kind.{bytes}
+use Rattle.grammar.specs.Words.{lf, tab}
 use Rattle.grammar.specs.Print.{decimal, joined, textOf}
 use Rattle.grammar.specs.Lines.{tableRead}
 use Rattle.texts.specs.Calls.{Counts, readOf}

@@ -1,5 +1,4 @@
 -- The words, letters and separators of the text, each in one place (01, "Text").
---   bytes s            the bytes of a quoted word
 --   lf, tab            the byte that ends a line, and the one that parts its fields
 --   rowWord, opWord    the first field of a row line and of a record line;   lockWord l   the second of a row line
 --   zeroByte           the byte of the digit 0
@@ -8,17 +7,12 @@
 -- Edition 1 has no header line: textOf (Print) begins with the rows, and linesIn (Calls) reads every text by edition1.
 use Prim.Native.Nat.{ℕ, _-_}
 use Prim.Native.Char.{code}
-use Prim.Native.String as S
 use mathlib.Core.Bool.{cond}
 use mathlib.Core.List.{List, [], _∷_}
 use lib.Dec.{eqb}
 use Rattle.operations.specs.Limits.{recordWords}
-use Rattle.operations.specs.Kind.{Kind}
+use Rattle.operations.specs.Kind.{bytes, Kind}
 use Rattle.operations.specs.Kinds.{kinds}
-
-abbrev pub bytes : S.String → List ℕ
-bytes S.String.[] = []
-bytes (S._∷_ c s) = code c ∷ bytes s
 
 -- "Lines end in LF (byte 10), fields are parted by one tab."
 abbrev pub lf : ℕ

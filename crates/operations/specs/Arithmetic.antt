@@ -1,19 +1,18 @@
 -- Kinds 13 to 20: sums, products, comparison and choice (01, "Records" and "Points and plain runs"). Each kind is described here and nowhere else.
 --   opAdd opSub opNeg opMul opEq opUlt opSlt opIte
 -- In a plain number, w is the width of the first operand, first ws, and a, b are the operands' numbers.
-use mathlib.Core.List.{[], _∷_}
 use mathlib.Core.Bool.{cond}
 use Prim.Native.Nat.{ℕ, _+_, _-_, _*_, _%_, _^_}
 use lib.Dec.{eqb, ltb}
 use Rattle.bits.specs.Bit.{bit, digit}
-use Rattle.operations.specs.Kind.{asRow, unused, Kind, first, second, third, sameWidth, sameWidths, chosenWidths, comparedWidths}
+use Rattle.operations.specs.Kind.{bytes, asRow, unused, Kind, first, second, third, sameWidth, sameWidths, chosenWidths, comparedWidths}
 
 -- add: a + b modulo 2^w
 unfoldable pub opAdd : Kind
 opAdd =
     record {
       number = 13;
-      name = 97 ∷ 100 ∷ 100 ∷ [];
+      name = bytes "add";
       use-a = asRow;
       use-b = asRow;
       use-p = unused;
@@ -26,7 +25,7 @@ unfoldable pub opSub : Kind
 opSub =
     record {
       number = 14;
-      name = 115 ∷ 117 ∷ 98 ∷ [];
+      name = bytes "sub";
       use-a = asRow;
       use-b = asRow;
       use-p = unused;
@@ -39,7 +38,7 @@ unfoldable pub opNeg : Kind
 opNeg =
     record {
       number = 15;
-      name = 110 ∷ 101 ∷ 103 ∷ [];
+      name = bytes "neg";
       use-a = asRow;
       use-b = unused;
       use-p = unused;
@@ -52,7 +51,7 @@ unfoldable pub opMul : Kind
 opMul =
     record {
       number = 16;
-      name = 109 ∷ 117 ∷ 108 ∷ [];
+      name = bytes "mul";
       use-a = asRow;
       use-b = asRow;
       use-p = unused;
@@ -65,7 +64,7 @@ unfoldable pub opEq : Kind
 opEq =
     record {
       number = 17;
-      name = 101 ∷ 113 ∷ [];
+      name = bytes "eq";
       use-a = asRow;
       use-b = asRow;
       use-p = unused;
@@ -78,7 +77,7 @@ unfoldable pub opUlt : Kind
 opUlt =
     record {
       number = 18;
-      name = 117 ∷ 108 ∷ 116 ∷ [];
+      name = bytes "ult";
       use-a = asRow;
       use-b = asRow;
       use-p = unused;
@@ -91,7 +90,7 @@ unfoldable pub opSlt : Kind
 opSlt =
     record {
       number = 19;
-      name = 115 ∷ 108 ∷ 116 ∷ [];
+      name = bytes "slt";
       use-a = asRow;
       use-b = asRow;
       use-p = unused;
@@ -104,7 +103,7 @@ unfoldable pub opIte : Kind
 opIte =
     record {
       number = 20;
-      name = 105 ∷ 116 ∷ 101 ∷ [];
+      name = bytes "ite";
       use-a = asRow;
       use-b = asRow;
       use-p = asRow;

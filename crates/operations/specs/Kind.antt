@@ -1,13 +1,21 @@
 -- What there is to say of a kind of operation (01, "Records" and "Points and plain runs").
+--   bytes s         the bytes of a quoted word
 --   Use             what a word of a record is to an operation: a row, a number, or nothing
 --   Kind            number, text name, use of the words a, b and p, width rule, plain number
 --   first l, second l, third l   the operands' widths or numbers, in the order of the words
 --   sameWidth .. extended        the width rules that several kinds share
 use mathlib.Core.Bool.{Bool, _&&_}
-use mathlib.Core.List.{List}
+use mathlib.Core.List.{List, [], _∷_}
 use Prim.Native.Nat.{ℕ, _+_}
+use Prim.Native.Char.{Char, code}
+use Prim.Native.String as S
 use lib.Dec.{leb, eqb}
 use lib.ListN.{getD}
+
+-- the bytes of a quoted word
+abbrev pub bytes : S.String → List ℕ
+bytes S.String.[] = []
+bytes (S._∷_ c s) = code c ∷ bytes s
 
 pub data Use : Type 0 where
   asRow asNumber unused : Use

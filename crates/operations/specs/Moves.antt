@@ -1,21 +1,20 @@
 -- Kinds 0 to 12: logic and movement (01, "Records" and "Points and plain runs"). Each kind is described here and nowhere else.
 --   opCopy opNot opAnd opOr opXor opShl opLshr opAshr opRotl opExtract opConcat opZext opSext
 -- In a plain number, w is the width of the first operand, first ws, and a, b are the operands' numbers.
-use mathlib.Core.List.{[], _∷_}
 use mathlib.Core.Bool.{_&&_}
 use Prim.Native.Nat.{ℕ, _+_, _-_, _*_, _/_, _%_, _^_, min}
 use lib.Dec.{eqb}
 use lib.Bits.{bitAnd, bitOr, bitXor}
 use Rattle.bits.specs.Bit.{isSet, number}
 use Rattle.bits.specs.Below.{someBelow}
-use Rattle.operations.specs.Kind.{asRow, asNumber, unused, Kind, first, second, sameWidth, sameWidths, takenWidth, joinedWidths, extendedWidth}
+use Rattle.operations.specs.Kind.{bytes, asRow, asNumber, unused, Kind, first, second, sameWidth, sameWidths, takenWidth, joinedWidths, extendedWidth}
 
 -- copy, zext: a
 unfoldable pub opCopy : Kind
 opCopy =
     record {
       number = 0;
-      name = 99 ∷ 111 ∷ 112 ∷ 121 ∷ [];
+      name = bytes "copy";
       use-a = asRow;
       use-b = unused;
       use-p = unused;
@@ -28,7 +27,7 @@ unfoldable pub opNot : Kind
 opNot =
     record {
       number = 1;
-      name = 110 ∷ 111 ∷ 116 ∷ [];
+      name = bytes "not";
       use-a = asRow;
       use-b = unused;
       use-p = unused;
@@ -41,7 +40,7 @@ unfoldable pub opAnd : Kind
 opAnd =
     record {
       number = 2;
-      name = 97 ∷ 110 ∷ 100 ∷ [];
+      name = bytes "and";
       use-a = asRow;
       use-b = asRow;
       use-p = unused;
@@ -53,7 +52,7 @@ unfoldable pub opOr : Kind
 opOr =
     record {
       number = 3;
-      name = 111 ∷ 114 ∷ [];
+      name = bytes "or";
       use-a = asRow;
       use-b = asRow;
       use-p = unused;
@@ -65,7 +64,7 @@ unfoldable pub opXor : Kind
 opXor =
     record {
       number = 4;
-      name = 120 ∷ 111 ∷ 114 ∷ [];
+      name = bytes "xor";
       use-a = asRow;
       use-b = asRow;
       use-p = unused;
@@ -78,7 +77,7 @@ unfoldable pub opShl : Kind
 opShl =
     record {
       number = 5;
-      name = 115 ∷ 104 ∷ 108 ∷ [];
+      name = bytes "shl";
       use-a = asRow;
       use-b = unused;
       use-p = asNumber;
@@ -91,7 +90,7 @@ unfoldable pub opLshr : Kind
 opLshr =
     record {
       number = 6;
-      name = 108 ∷ 115 ∷ 104 ∷ 114 ∷ [];
+      name = bytes "lshr";
       use-a = asRow;
       use-b = unused;
       use-p = asNumber;
@@ -104,7 +103,7 @@ unfoldable pub opAshr : Kind
 opAshr =
     record {
       number = 7;
-      name = 97 ∷ 115 ∷ 104 ∷ 114 ∷ [];
+      name = bytes "ashr";
       use-a = asRow;
       use-b = unused;
       use-p = asNumber;
@@ -117,7 +116,7 @@ unfoldable pub opRotl : Kind
 opRotl =
     record {
       number = 8;
-      name = 114 ∷ 111 ∷ 116 ∷ 108 ∷ [];
+      name = bytes "rotl";
       use-a = asRow;
       use-b = unused;
       use-p = asNumber;
@@ -130,7 +129,7 @@ unfoldable pub opExtract : Kind
 opExtract =
     record {
       number = 9;
-      name = 101 ∷ 120 ∷ 116 ∷ 114 ∷ 97 ∷ 99 ∷ 116 ∷ [];
+      name = bytes "extract";
       use-a = asRow;
       use-b = unused;
       use-p = asNumber;
@@ -143,7 +142,7 @@ unfoldable pub opConcat : Kind
 opConcat =
     record {
       number = 10;
-      name = 99 ∷ 111 ∷ 110 ∷ 99 ∷ 97 ∷ 116 ∷ [];
+      name = bytes "concat";
       use-a = asRow;
       use-b = asRow;
       use-p = unused;
@@ -155,7 +154,7 @@ unfoldable pub opZext : Kind
 opZext =
     record {
       number = 11;
-      name = 122 ∷ 101 ∷ 120 ∷ 116 ∷ [];
+      name = bytes "zext";
       use-a = asRow;
       use-b = unused;
       use-p = unused;
@@ -168,7 +167,7 @@ unfoldable pub opSext : Kind
 opSext =
     record {
       number = 12;
-      name = 115 ∷ 101 ∷ 120 ∷ 116 ∷ [];
+      name = bytes "sext";
       use-a = asRow;
       use-b = unused;
       use-p = unused;

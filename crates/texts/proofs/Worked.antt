@@ -10,7 +10,7 @@ use Rattle.tables.specs.Check.{done, refused, verdict}
 use Rattle.tables.specs.Table.{Table}
 use Rattle.tables.specs.Meant.{lent}
 use Rattle.grammar.specs.Lists.{allOf, same, listed}
-use Rattle.grammar.specs.Words.{bytes}
+use Rattle.operations.specs.Kind.{bytes}
 use Rattle.grammar.specs.Print.{digits, decimal, lettersOf, fieldsOf, joined, lineText, linesText, tableLines, textOf}
 use Rattle.grammar.specs.Cut.{pieces, before, past, partEnds, fieldEnds, fieldOf}
 use Rattle.grammar.specs.Line.{numeral, isNumber, numberOf, isVector, lineOf}
