@@ -1,0 +1,43 @@
+-- A host's answer to run says what run's own answer says, and its refusal 0 is a done run. Assumes nothing.
+use mathlib.Core.Path.{_≡_, refl, sym, ap, _∙_}
+use mathlib.Core.List.{List}
+use Prim.Native.Nat.{ℕ}
+use native.Mathlib.Omega.{arith}
+use Rattle.tables.specs.Check.{Answer, done, refused, verdict}
+use Rattle.tables.specs.Checks.{runChecks}
+use Rattle.tables.specs.Table.{Table}
+use Rattle.tables.specs.Demand.{Demand3}
+use Rattle.tables.specs.Run.{Ran, ranAs, runOf}
+use Rattle.tables.specs.declared.RunAnswer.{RunAnswer}
+use Rattle.tables.specs.Meant.{held, runMeant, ran}
+use Rattle.tables.proofs.Verdicts.{passed-of-done, done-of-passed}
+use Rattle.rifflerleek.specs.declared.Answer.{Answer as HostAnswer}
+use Rattle.rifflerleek.specs.Host.{numberAnswer, outcome, hostRan}
+use Rattle.rifflerleek.proofs.Numbered.{run-refused}
+
+module _ (t : Table) (first last : ℕ) where
+  answer-kept : (a : Answer ℕ) → ranAs a t first .answer ≡ a
+  answer-kept (done n) = refl
+  answer-kept (refused n i) = refl
+
+  run-answer : runOf t first last .answer ≡ verdict (runChecks t first last) last
+  unfolding runOf
+  run-answer = answer-kept (verdict (runChecks t first last) last)
+
+  -- a done run answers last
+  done-last : (n : ℕ) → done n ≡ verdict (runChecks t first last) last → done n ≡ done last
+  done-last n e = e ∙ done-of-passed (runChecks t first last) last (passed-of-done (runChecks t first last) last n (sym e))
+
+  zero-done : (a : Answer ℕ) → a ≡ verdict (runChecks t first last) last → numberAnswer a .refusal ≡ 0 → a ≡ done last
+  zero-done (done n) e z = done-last n e
+  zero-done (refused n i) e z = let h = run-refused t first last n i (sym e) in absurd (omega arith)
+
+  -- r: run's answer, found to be s; h: what the host is handed for it
+  pub run-hosted : (r s : RunAnswer) (h : HostAnswer) (masks values : List ℕ) → r ≡ s → h ≡ numberAnswer (runMeant s) → ran r masks values ≡ runOf t first last
+      → (runMeant r ≡ done last → Demand3 t first last (held masks values))
+      → (outcome h (held masks values) ≡ hostRan (runOf t first last)) × (h .refusal ≡ 0 → Demand3 t first last (held masks values))
+  run-hosted r s h masks values g e f d =
+      let k = ap (λ (x : RunAnswer). ran x masks values) (sym g) ∙ f in (
+        ap (λ (a : HostAnswer). outcome a (held masks values)) e ∙ ap hostRan k,
+        λ z. d (ap runMeant g ∙ zero-done (runMeant s) (ap (λ (x : Ran). x .answer) k ∙ run-answer) (ap (λ (a : HostAnswer). a .refusal) (sym e) ∙ z)),
+      )

@@ -1,0 +1,62 @@
+-- `rifflerleek::rifflerleek_field` meets its contract: the field begins where it does in its line, and ends after its bytes. Assumes nothing.
+use borrow.Author.Needs.{needs}
+use mathlib.Core.Path.{_≡_, ap, _∙_}
+use native.Mathlib.Omega.{arith}
+use denote.Ref.{ptr}
+use Rattle.grammar.specs.Cut.{Part}
+use Rattle.lines.specs.Meant.{lies}
+use Rattle.rifflerleek.proofs.Starts.{bytes-found, end-inside, ends-found}
+use Rattle.rifflerleek.proofs.rifflerleek_field.Statement.{statement}
+use Rattle.rifflerleek.proofs.rifflerleek_field.Tie as tie
+
+part-requires : tie.Need-part-requires
+part-requires c κs = search needs
+
+start-of-requires : tie.Need-start-of-requires
+start-of-requires c κs = search needs
+
+start-of-requires-2 : tie.Need-start-of-requires-2
+start-of-requires-2 c κs = search needs
+
+add-start : tie.Need-add-start
+add-start c = search needs
+
+field-requires : tie.Need-field-requires
+field-requires c κs = search needs
+
+add-end : tie.Need-add-end
+add-end c =
+    let a = c .before .before .before .before .before .args in
+    let l = c .before .before .before .part in
+    let s = c .before .before .start-of in
+    let t = c .before .start-of2 in
+    let f = c .field in
+    let h = end-inside (a .text .now) (a .line) (a .field) (l .result .now) (f .result .now) (s .result) (t .result) (ap (λ (p : Part). p .bytes) (l .ensures)) (s .ensures .0) (t .ensures .0)
+    (bytes-found (lies (ptr (a .text)) (a .text .now)) (lies (ptr (f .result)) (f .result .now)) (a .line) (a .field) (f .ensures)) in
+    omega (arith, h)
+
+done-requires : tie.Need-done-requires
+done-requires c κs = search needs
+
+returns : tie.Need-returns
+returns c =
+    let a = c .before .before .before .before .before .before .args in
+    let l = c .before .before .before .before .part in
+    let s = c .before .before .before .start-of in
+    let t = c .before .before .start-of2 in
+    let f = c .before .field in
+    c .done .ensures ∙ ends-found (a .text .now) (a .line) (a .field) (l .result .now) (f .result .now) (s .result) (t .result) (ap (λ (p : Part). p .bytes) (l .ensures)) (s .ensures .0) (t .ensures .0)
+    (bytes-found (lies (ptr (a .text)) (a .text .now)) (lies (ptr (f .result)) (f .result .now)) (a .line) (a .field) (f .ensures))
+
+pub rifflerleek-field-spec : {M : Type 1} → statement M
+rifflerleek-field-spec =
+    tie.close
+    (tie.spec
+    part-requires
+    start-of-requires
+    start-of-requires-2
+    add-start
+    field-requires
+    add-end
+    done-requires
+    returns)

@@ -1,0 +1,56 @@
+-- What a host program is handed: the paper's answer as one struct, and what the call leaves (01, "Calls": "the result, or a refusal holding its number and its place").
+--   resultOf a b      a result of two numbers: refusal 0;   refusalOf n p   a refusal: its number and its place
+--   numberAnswer      of run, size and write, whose result is one number;   countAnswer   of count;   countsAnswer   of read
+--   endsAnswer        of field: where the part begins and ends
+--   Outcome L         an answer, and what the call leaves in the slices;   outcome r left   these of a host
+--   hostRan, hostWritten, hostRead   these of what run, write and read answer and leave
+use mathlib.Core.List.{List}
+use Prim.Native.Nat.{ℕ}
+use Rattle.tables.specs.Check.{Answer, done, refused}
+use Rattle.tables.specs.Table.{State, Table}
+use Rattle.tables.specs.Run.{Ran, Count}
+use Rattle.grammar.specs.Cut.{Ends}
+use Rattle.texts.specs.Calls.{Written, Counts, ReadBack}
+use Rattle.rifflerleek.specs.declared.Answer.{Answer as HostAnswer}
+
+abbrev pub resultOf : ℕ → ℕ → HostAnswer
+resultOf a b = record { refusal = 0; place = 0; first = a; second = b }
+
+abbrev pub refusalOf : ℕ → ℕ → HostAnswer
+refusalOf number place = record { refusal = number; place = place; first = 0; second = 0 }
+
+abbrev pub numberAnswer : Answer ℕ → HostAnswer
+numberAnswer (done n) = resultOf n 0
+numberAnswer (refused number place) = refusalOf number place
+
+-- "the unknown bits u of a row, and 2^u"
+abbrev pub countAnswer : Answer Count → HostAnswer
+countAnswer (done c) = resultOf (c .unknown) (c .choices)
+countAnswer (refused number place) = refusalOf number place
+
+-- "answers both counts"
+abbrev pub countsAnswer : Answer Counts → HostAnswer
+countsAnswer (done c) = resultOf (c .rows) (c .records)
+countsAnswer (refused number place) = refusalOf number place
+
+-- "a part of the lent text": by its two ends
+abbrev pub endsAnswer : Ends → HostAnswer
+endsAnswer e = resultOf (e .start) (e .end)
+
+-- ---- with what is left in the slices
+
+pub record Outcome (L : Type 0) : Type 0 where
+  pub answer : HostAnswer
+  pub left : L
+
+abbrev pub outcome : {L : Type 0} → HostAnswer → L → Outcome L
+outcome r left = record { answer = r; left = left }
+
+abbrev pub hostRan : Ran → Outcome State
+hostRan ran = outcome (numberAnswer (ran .answer)) (ran .rows)
+
+abbrev pub hostWritten : Written → Outcome (List ℕ)
+hostWritten written = outcome (numberAnswer (written .answer)) (written .buffer)
+
+abbrev pub hostRead : ReadBack → Outcome Table
+hostRead back = outcome (countsAnswer (back .answer)) (back .slices)

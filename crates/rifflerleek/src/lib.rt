@@ -1,0 +1,155 @@
+// The library for C, C++ and Rust programs: the public calls, exported (01, "Calls").
+ghost use mathlib.Core.Path.{_≡_};
+ghost use mathlib.Core.List.{[]};
+ghost use Rattle.tables.specs.Demand.{Demand3};
+ghost use Rattle.tables.specs.Meant.{lent, held};
+ghost use Rattle.tables.specs.Run.{runOf, countOf};
+ghost use Rattle.grammar.specs.Cut.{fieldEnds};
+ghost use Rattle.texts.specs.Calls.{sizeOf, writeOf, readOf};
+ghost use Rattle.rifflerleek.specs.Host.{resultOf, refusalOf, numberAnswer, countAnswer, endsAnswer, outcome, hostRan, hostWritten, hostRead};
+use ends::start_of;
+use lines::cut::LF;
+use lines::cut::TAB;
+use lines::cut::part;
+use tables::CountAnswer;
+use tables::Refusal;
+use tables::RunAnswer;
+use texts::BytesAnswer;
+use texts::ReadAnswer;
+
+mod ends; // ends.rt: where a part of a text begins
+
+// What every call answers: refusal 0 and up to two results, or the refusal's number and its place.
+#[repr(C)]
+pub struct Answer {
+    pub refusal: u32,
+    pub place: usize,
+    pub first: usize,
+    pub second: u64,
+}
+
+// A result of two numbers.
+fn done(first: usize, second: u64) -> Answer
+    ensures { λ r. ⌜ r ≡ resultOf first second ⌝ }
+{
+    Answer {
+        refusal: 0,
+        place: 0,
+        first: first,
+        second: second,
+    }
+}
+
+// A refusal.
+fn refused(why: Refusal) -> Answer
+    ensures { λ r. ⌜ r ≡ refusalOf (why .number) (why .place) ⌝ }
+{
+    Answer {
+        refusal: why.number,
+        place: why.place,
+        first: 0,
+        second: 0,
+    }
+}
+
+// Runs the stretch of records from first up to but not including last; `first` of the answer is last.
+#[no_mangle]
+pub extern "C" fn rifflerleek_run(
+    width: &[u8],
+    lock: &[u8],
+    mask: &mut [u32],
+    value: &mut [u32],
+    words: &[u32],
+    first: usize,
+    last: usize,
+) -> Answer
+    ensures effect { λ r. ⌜ outcome r (held (now (mask .exit)) (now (value .exit))) ≡ hostRan (runOf (lent (now (width .entry)) (now (lock .entry)) (now (mask .entry)) (now (value .entry)) (now (words .entry))) first last) ⌝ }
+    ensures demand3 { λ r. ⌜ (r .refusal ≡ 0 → Demand3 (lent (now (width .entry)) (now (lock .entry)) (now (mask .entry)) (now (value .entry)) (now (words .entry))) first last (held (now (mask .exit)) (now (value .exit)))) ⌝ }
+{
+    match tables::run(width, lock, mask, value, words, first, last) {
+        RunAnswer::Done(n) => done(n, 0),
+        RunAnswer::Refused(r) => refused(r),
+    }
+}
+
+// Counts the unknown bits u of a row: `first` of the answer is u, `second` is 2^u.
+#[no_mangle]
+pub extern "C" fn rifflerleek_count(
+    width: &[u8],
+    lock: &[u8],
+    mask: &[u32],
+    value: &[u32],
+    row: usize,
+) -> Answer
+    ensures { λ r. ⌜ r ≡ countAnswer (countOf (lent (now (width .entry)) (now (lock .entry)) (now (mask .entry)) (now (value .entry)) []) row) ⌝ }
+{
+    match tables::count(width, lock, mask, value, row) {
+        CountAnswer::Counted(u, choices) => done(u as usize, choices),
+        CountAnswer::Refused(r) => refused(r),
+    }
+}
+
+// A number of bytes that the table's text does not exceed: `first` of the answer.
+#[no_mangle]
+pub extern "C" fn rifflerleek_size(
+    width: &[u8],
+    lock: &[u8],
+    mask: &[u32],
+    value: &[u32],
+    words: &[u32],
+) -> Answer
+    ensures { λ r. ⌜ r ≡ numberAnswer (sizeOf (lent (now (width .entry)) (now (lock .entry)) (now (mask .entry)) (now (value .entry)) (now (words .entry)))) ⌝ }
+{
+    match texts::size(width, lock, mask, value, words) {
+        BytesAnswer::Bytes(n) => done(n, 0),
+        BytesAnswer::Refused(r) => refused(r),
+    }
+}
+
+// Writes the table's text into the lent buffer: `first` of the answer is its byte count.
+#[no_mangle]
+pub extern "C" fn rifflerleek_write(
+    width: &[u8],
+    lock: &[u8],
+    mask: &[u32],
+    value: &[u32],
+    words: &[u32],
+    out: &mut [u8],
+) -> Answer
+    ensures { λ r. ⌜ outcome r (now (out .exit)) ≡ hostWritten (writeOf (lent (now (width .entry)) (now (lock .entry)) (now (mask .entry)) (now (value .entry)) (now (words .entry))) (now (out .entry))) ⌝ }
+{
+    match texts::write(width, lock, mask, value, words, out) {
+        BytesAnswer::Bytes(n) => done(n, 0),
+        BytesAnswer::Refused(r) => refused(r),
+    }
+}
+
+// Reads a text into the lent slices: `first` of the answer is the number of rows, `second` that of records.
+#[no_mangle]
+pub extern "C" fn rifflerleek_read(
+    text: &[u8],
+    width: &mut [u8],
+    lock: &mut [u8],
+    mask: &mut [u32],
+    value: &mut [u32],
+    words: &mut [u32],
+) -> Answer
+    ensures { λ r. ⌜ outcome r (lent (now (width .exit)) (now (lock .exit)) (now (mask .exit)) (now (value .exit)) (now (words .exit))) ≡ hostRead (readOf (now (text .entry)) (lent (now (width .entry)) (now (lock .entry)) (now (mask .entry)) (now (value .entry)) (now (words .entry)))) ⌝ }
+{
+    match texts::read(text, width, lock, mask, value, words) {
+        ReadAnswer::Read(rows, records) => done(rows, records as u64),
+        ReadAnswer::Refused(r) => refused(r),
+    }
+}
+
+// Where the field of a line lies in the text, both numbered from 1: from `first` of the answer up to but not including `second`. It never refuses.
+#[no_mangle]
+pub extern "C" fn rifflerleek_field(text: &[u8], line: usize, field: usize) -> Answer
+    ensures { λ r. ⌜ r ≡ endsAnswer (fieldEnds (now (text .entry)) line field) ⌝ }
+{
+    let l = part(text, line, LF);
+    let start = start_of(text, line, LF) + start_of(l, field, TAB);
+    let found = texts::field(text, line, field);
+    let end = start + found.len();
+    done(start, end as u64)
+}

@@ -1,0 +1,81 @@
+// Rifflerleek in a C program: does an index that is partly unknown stay inside its array?
+//   cc -I include examples/host.c target/staticlib/librifflerleek.a
+#include "rifflerleek.h"
+#include <stdio.h>
+#include <string.h>
+
+enum { ROWS = 256, RECORDS = 1024 };
+
+// The library has no memory of its own: a host lends it these.
+static uint8_t width[ROWS], lock[ROWS];
+static uint32_t mask[ROWS], value[ROWS], words[5 * RECORDS];
+static uint8_t out[44 * ROWS + 24 * RECORDS];
+static size_t rows, records;
+
+static const char text[] = "row\tlocked\t0000XXXX\n" // 0: index, 0 to 15
+                           "row\tlocked\t01000000\n" // 1: start of the array
+                           "row\tlocked\t10000000\n" // 2: its end
+                           "row\topen\t00000000\n"   // 3: address
+                           "row\topen\t0\n"          // 4: inside
+                           "op\tshl\t3\t0\t0\t2\n"
+                           "op\tadd\t3\t3\t1\t0\n"
+                           "op\tult\t4\t3\t2\t0\n";
+
+// Whether a call was refused: says so, and why.
+static int refused(const char *call, rifflerleek_answer a)
+{
+    if (a.refusal != RIFFLERLEEK_DONE)
+        printf("%s: refusal %u at %zu\n", call, a.refusal, a.place);
+    return a.refusal != RIFFLERLEEK_DONE;
+}
+
+static int load(const char *bytes)
+{
+    const uint8_t *lent = (const uint8_t *)bytes;
+    size_t length = strlen(bytes);
+    rifflerleek_answer a = rifflerleek_read(lent, length, width, ROWS, lock, ROWS, mask, ROWS, value, ROWS, words, 5 * RECORDS);
+    if (refused("read", a)) {
+        if (a.refusal == RIFFLERLEEK_LINE) { // name the operation of the line refused
+            rifflerleek_answer f = rifflerleek_field(lent, length, a.place, 2);
+            printf("its second field: %.*s\n", (int)(f.second - f.first), bytes + f.first);
+        }
+        return 0; // nothing was loaded
+    }
+    rows = a.first;
+    records = a.second;
+    return 1;
+}
+
+static void run(void)
+{
+    rifflerleek_answer a = rifflerleek_run(width, rows, lock, rows, mask, rows, value, rows, words, 5 * records, 0, records);
+    if (refused("run", a)) // the rows are as they were
+        return;
+    a = rifflerleek_write(width, rows, lock, rows, mask, rows, value, rows, words, 5 * records, out, sizeof out);
+    fwrite(out, 1, a.first, stdout);
+}
+
+static void count(size_t row)
+{
+    rifflerleek_answer a = rifflerleek_count(width, rows, lock, rows, mask, rows, value, rows, row);
+    if (!refused("count", a))
+        printf("row %zu: %zu unknown bits, %llu numbers\n", row, a.first, (unsigned long long)a.second);
+}
+
+int main(void)
+{
+    if (!load(text))
+        return 1;
+    run(); // row 4 is 1: every index that row 0 covers stays inside
+    count(3);
+
+    mask[0] = 0xff; // an index that is wholly unknown
+    value[0] = 0;
+    run(); // row 4 is X: some stay inside, some do not
+    count(4);
+
+    words[5 * 1 + 1] = 1; // add, into the locked row 1
+    run();
+
+    return load("row\topen\t0X\nop\tadd\t0\t0\t00\t0\n"); // 0 is written with one digit
+}

@@ -1,0 +1,137 @@
+// Rifflerleek in a Rust program: does an index that is partly unknown stay inside its array?
+//   rustc --edition 2021 -L target/staticlib examples/host.rs
+
+/// The calls, as include/rifflerleek.h declares them: a slice is a pointer and a length.
+mod host {
+    #[repr(C)]
+    pub struct Answer {
+        pub refusal: u32,
+        pub place: usize,
+        pub first: usize,
+        pub second: u64,
+    }
+
+    #[rustfmt::skip]
+    #[link(name = "rifflerleek", kind = "static")]
+    extern "C" {
+        pub fn rifflerleek_run(width: *const u8, widths: usize, lock: *const u8, locks: usize, mask: *mut u32, masks: usize, value: *mut u32, values: usize, words: *const u32, word_count: usize, first: usize, last: usize) -> Answer;
+        pub fn rifflerleek_count(width: *const u8, widths: usize, lock: *const u8, locks: usize, mask: *const u32, masks: usize, value: *const u32, values: usize, row: usize) -> Answer;
+        pub fn rifflerleek_size(width: *const u8, widths: usize, lock: *const u8, locks: usize, mask: *const u32, masks: usize, value: *const u32, values: usize, words: *const u32, word_count: usize) -> Answer;
+        pub fn rifflerleek_write(width: *const u8, widths: usize, lock: *const u8, locks: usize, mask: *const u32, masks: usize, value: *const u32, values: usize, words: *const u32, word_count: usize, out: *mut u8, out_length: usize) -> Answer;
+        pub fn rifflerleek_read(text: *const u8, text_length: usize, width: *mut u8, widths: usize, lock: *mut u8, locks: usize, mask: *mut u32, masks: usize, value: *mut u32, values: usize, words: *mut u32, word_count: usize) -> Answer;
+        pub fn rifflerleek_field(text: *const u8, text_length: usize, line: usize, field: usize) -> Answer;
+    }
+}
+
+struct Refusal {
+    number: u32,
+    place: usize,
+}
+
+// Every call answers, on every input: there is nothing to catch.
+fn result(a: host::Answer) -> Result<(usize, u64), Refusal> {
+    if a.refusal == 0 { Ok((a.first, a.second)) } else { Err(Refusal { number: a.refusal, place: a.place }) }
+}
+
+struct Table {
+    width: Vec<u8>,
+    lock: Vec<u8>,
+    mask: Vec<u32>,
+    value: Vec<u32>,
+    words: Vec<u32>,
+}
+
+// A call on the four row slices, each as a pointer and a length.
+macro_rules! call {
+    ($name:ident, $t:expr, $($more:expr),*) => {
+        result(unsafe {
+            host::$name(
+                $t.width.as_ptr(), $t.width.len(), $t.lock.as_ptr(), $t.lock.len(),
+                $t.mask.as_mut_ptr(), $t.mask.len(), $t.value.as_mut_ptr(), $t.value.len(), $($more),*
+            )
+        })
+    };
+}
+
+impl Table {
+    fn read(text: &[u8]) -> Result<Table, Refusal> {
+        let (most, words) = (256, 5 * 1024);
+        let mut t = Table { width: vec![0; most], lock: vec![0; most], mask: vec![0; most], value: vec![0; most], words: vec![0; words] };
+        let (rows, records) = result(unsafe {
+            host::rifflerleek_read(
+                text.as_ptr(), text.len(), t.width.as_mut_ptr(), most, t.lock.as_mut_ptr(), most,
+                t.mask.as_mut_ptr(), most, t.value.as_mut_ptr(), most, t.words.as_mut_ptr(), words,
+            )
+        })?;
+        t.width.truncate(rows);
+        t.lock.truncate(rows);
+        t.mask.truncate(rows);
+        t.value.truncate(rows);
+        t.words.truncate(5 * records as usize);
+        Ok(t)
+    }
+
+    // All records; a refusal leaves the rows as they were.
+    fn run(&mut self) -> Result<usize, Refusal> {
+        let (words, length) = (self.words.as_ptr(), self.words.len());
+        Ok(call!(rifflerleek_run, self, words, length, 0, length / 5)?.0)
+    }
+
+    fn count(&mut self, row: usize) -> Result<(usize, u64), Refusal> {
+        call!(rifflerleek_count, self, row)
+    }
+
+    fn text(&mut self) -> Result<String, Refusal> {
+        let (words, length) = (self.words.as_ptr(), self.words.len());
+        let mut out = vec![0; call!(rifflerleek_size, self, words, length)?.0];
+        let bytes = call!(rifflerleek_write, self, words, length, out.as_mut_ptr(), out.len())?.0;
+        out.truncate(bytes);
+        Ok(String::from_utf8(out).unwrap())
+    }
+}
+
+/// The field itself, as a part of the text.
+fn field(text: &str, line: usize, field: usize) -> &str {
+    let a = unsafe { host::rifflerleek_field(text.as_ptr(), text.len(), line, field) };
+    &text[a.first..a.second as usize]
+}
+
+const TEXT: &str = "row\tlocked\t0000XXXX
+row\tlocked\t01000000
+row\tlocked\t10000000
+row\topen\t00000000
+row\topen\t0
+op\tshl\t3\t0\t0\t2
+op\tadd\t3\t3\t1\t0
+op\tult\t4\t3\t2\t0
+";
+
+fn run_and_print(t: &mut Table, row: usize) -> Result<(), Refusal> {
+    t.run()?;
+    print!("{}", t.text()?);
+    let (unknown, numbers) = t.count(row)?;
+    println!("row {row}: {unknown} unknown bits, {numbers} numbers");
+    Ok(())
+}
+
+// Loads the table, and runs it with an index of 0 to 15, with one that is wholly unknown, and with a record that run refuses.
+fn evaluate() -> Result<(), Refusal> {
+    let mut t = Table::read(TEXT.as_bytes())?;
+    run_and_print(&mut t, 3)?; // row 4 is 1: every index that row 0 covers stays inside
+    t.mask[0] = 0xff;
+    t.value[0] = 0;
+    run_and_print(&mut t, 4)?; // row 4 is X: some stay inside, some do not
+    t.words[5 + 1] = 1; // add, into the locked row 1
+    run_and_print(&mut t, 4)
+}
+
+fn main() {
+    if let Err(r) = evaluate() {
+        println!("run: refusal {} at {}", r.number, r.place);
+    }
+    let bad = "row\topen\t0X\nop\tadd\t0\t0\t00\t0\n"; // 0 is written with one digit
+    if let Err(r) = Table::read(bad.as_bytes()) {
+        println!("read: refusal {} at {}", r.number, r.place);
+        println!("its second field: {}", field(bad, r.place, 2));
+    }
+}

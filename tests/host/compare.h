@@ -1,0 +1,25 @@
+// Slices lent twice, and what both sides answer and leave, compared.
+#ifndef COMPARE_H
+#define COMPARE_H
+
+#include "../../include/rifflerleek.h"
+#include "draw.h"
+
+enum { RUN, COUNT, SIZE, WRITE, READ, FIELD, CALLS, REFUSALS = 15 };
+
+extern const char *const call_names[CALLS];
+
+// How often each call gave each refusal, 0 for a result; the number of the call at hand.
+extern unsigned seen[CALLS][REFUSALS];
+extern size_t call_number;
+
+// Lends a slice, with guard bytes around it, to both sides: the library's pointer; the reference's goes to *reference.
+void *lend(const void *data, size_t bytes, void *reference);
+
+// Lends the five slices of a draft: the library's as the result, the reference's in *reference.
+struct ref_table lend_table(struct draft *d, struct ref_table *reference);
+
+// Compares the answers and every byte lent, guards too, and takes the slices back. Where they differ the program ends.
+void compare(int name, rifflerleek_answer a, struct ref_answer b);
+
+#endif

@@ -1,0 +1,168 @@
+// Random calls, valid and damaged: the library and the reference must give the same answer and leave the same bytes, also
+// around and beyond what they write. Every refusal of every call, and every kind of record, must occur.
+// usage: differential [SEED [CALLS]]
+#include "compare.h"
+#include <stdio.h>
+#include <stdlib.h>
+#include <time.h>
+
+// The refusals that each call has, as bits.
+static const unsigned refusals[CALLS] = {0x7fe, 0x0b6, 0x3fe, 0x43fe, 0x3804, 0};
+
+static unsigned steps[KINDS];
+
+static struct draft d;
+static struct text text;
+
+// A table, more than half of them with up to three faults.
+static void table(void)
+{
+    draw_table(&d);
+    for (size_t faults = percent(35) ? 0 : 1 + below(3); faults > 0; faults--)
+        damage_table(&d, 1 + (unsigned)below(10));
+}
+
+static void call_run(void)
+{
+    struct ref_table r, t;
+    static struct draft work;
+    int exact = 0;
+    while (!exact) { // a fault can give a table whose steps take too many choices: draw another
+        table();
+        work = d;
+        r = slices(&work);
+        ref_run(&r, d.first, d.last, LIMIT, &exact);
+    }
+    t = lend_table(&d, &r);
+    rifflerleek_answer a = rifflerleek_run(t.width, t.widths, t.lock, t.locks, t.mask, t.masks, t.value, t.values, t.words,
+                                           t.wordCount, d.first, d.last);
+    compare(RUN, a, ref_run(&r, d.first, d.last, LIMIT, &exact));
+    for (size_t i = d.first; i < d.last && a.refusal == 0; i++)
+        steps[d.words[5 * i]]++;
+}
+
+static void call_count(void)
+{
+    struct ref_table r, t;
+    table();
+    size_t row = percent(70) ? below(d.widths + 1) : percent(30) ? SIZE_MAX : d.widths + below(300);
+    t = lend_table(&d, &r);
+    compare(COUNT, rifflerleek_count(t.width, t.widths, t.lock, t.locks, t.mask, t.masks, t.value, t.values, row), ref_count(&r, row));
+}
+
+static void call_size(void)
+{
+    struct ref_table r, t;
+    table();
+    t = lend_table(&d, &r);
+    compare(SIZE, rifflerleek_size(t.width, t.widths, t.lock, t.locks, t.mask, t.masks, t.value, t.values, t.words, t.wordCount), ref_size(&r));
+}
+
+static void call_write(void)
+{
+    static uint8_t buffer[40000];
+    struct ref_table r, t;
+    uint8_t *other;
+    table();
+    size_t size = 44 * d.widths + 24 * (d.wordCount / 5);
+    size_t lengths[] = {size, size + below(100), size + below(100), size - (size > 0), below(size + 1), 0};
+    size_t length = lengths[below(6)];
+    length = length > sizeof buffer ? sizeof buffer : length;
+    for (size_t i = 0; i < length; i++)
+        buffer[i] = (uint8_t)draw();
+    t = lend_table(&d, &r);
+    uint8_t *out = lend(buffer, length, &other);
+    rifflerleek_answer a = rifflerleek_write(t.width, t.widths, t.lock, t.locks, t.mask, t.masks, t.value, t.values, t.words,
+                                             t.wordCount, out, length);
+    compare(WRITE, a, ref_write(&r, other, length));
+}
+
+// Slices that hold a text, or just not, filled with any bytes.
+static void room(void)
+{
+    size_t more = percent(50) ? 0 : below(5), words = percent(50) ? 0 : below(20);
+    d.widths = percent(15) && text.rows > 0 ? text.rows - 1 : text.rows + more;
+    d.wordCount = 5 * text.records + words;
+    if (percent(15) && text.records > 0)
+        d.wordCount = 5 * text.records - 1 - below(5);
+    d.locks = d.masks = d.values = d.widths;
+    size_t *lengths[] = {&d.widths, &d.locks, &d.masks, &d.values};
+    if (percent(8))
+        *lengths[below(4)] = below(d.widths + 4);
+    for (size_t i = 0; i < d.widths + 4; i++) {
+        d.width[i] = d.lock[i] = (uint8_t)draw();
+        d.mask[i] = d.value[i] = (uint32_t)draw();
+    }
+    for (size_t i = 0; i < d.wordCount; i++)
+        d.words[i] = (uint32_t)draw();
+}
+
+static void call_read(void)
+{
+    struct ref_table r, t;
+    const uint8_t *other;
+    if (below(50) == 0)
+        draw_text_of(&text, 39999 + below(3));
+    else
+        draw_text(&text);
+    room();
+    t = lend_table(&d, &r);
+    uint8_t *lent_text = lend(text.bytes, text.length, &other);
+    rifflerleek_answer a = rifflerleek_read(lent_text, text.length, t.width, t.widths, t.lock, t.locks, t.mask, t.masks, t.value,
+                                            t.values, t.words, t.wordCount);
+    compare(READ, a, ref_read(other, text.length, &r));
+}
+
+static void call_field(void)
+{
+    const uint8_t *other;
+    draw_text(&text);
+    if (percent(30))
+        for (size_t i = 0; i < text.length; i++)
+            text.bytes[i] = (uint8_t)"\t\n\0a"[below(4)];
+    size_t line = percent(90) ? below(14) : draw(), field = percent(90) ? below(9) : draw();
+    uint8_t *lent_text = lend(text.bytes, text.length, &other);
+    compare(FIELD, rifflerleek_field(lent_text, text.length, line, field), ref_field(other, text.length, line, field));
+}
+
+// How often each refusal and each kind was seen, and how many were not.
+static int report(void)
+{
+    int missing = 0;
+    unsigned all[REFUSALS] = {0};
+    printf("refusal:");
+    for (int n = 0; n < REFUSALS; n++)
+        printf(n == 0 ? "   none" : "%6d", n);
+    for (int name = 0; name <= CALLS; name++) {
+        printf("\n%-8s", name < CALLS ? call_names[name] : "all");
+        for (int n = 0; n < REFUSALS; n++) {
+            unsigned count = name < CALLS ? seen[name][n] : all[n];
+            all[n] += name < CALLS ? count : 0;
+            missing += name < CALLS && (refusals[name] >> n & 1) && count == 0;
+            printf(n == 0 ? "%7u" : "%6u", count);
+        }
+    }
+    printf("\nsteps:");
+    for (int k = 0; k < KINDS; k++) {
+        printf(" %s %u", kinds[k].name, steps[k]);
+        missing += steps[k] == 0;
+    }
+    printf("\n");
+    return missing;
+}
+
+int main(int argc, char **argv)
+{
+    static void (*const calls[])(void) = {call_run, call_run, call_run, call_run, call_count, call_size, call_write, call_read, call_read, call_field};
+    uint64_t from = argc > 1 ? strtoull(argv[1], NULL, 10) : 1;
+    size_t count = argc > 2 ? strtoull(argv[2], NULL, 10) : 100000;
+    printf("seed %llu, %zu calls\n", (unsigned long long)from, count);
+    fflush(stdout);
+    seed(from);
+    for (call_number = 0; call_number < count; call_number++)
+        calls[below(10)]();
+    int missing = report();
+    printf("library and reference agree on every answer and every byte, in %.1f s; refusals and kinds never seen: %d\n",
+           (double)clock() / CLOCKS_PER_SEC, missing);
+    return missing != 0;
+}

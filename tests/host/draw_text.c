@@ -1,0 +1,76 @@
+// Random texts: lines, some of them damaged, and faults of the whole.
+#include "draw.h"
+#include <stdio.h>
+#include <string.h>
+
+static void damage_bytes(struct text *x)
+{
+    static const char bytes[] = {0, 9, 10, 13, 32, '0', '1', 'X', 'r', -1};
+    char b = bytes[below(10)];
+    size_t i = below(x->length + 1);
+    switch (below(6)) {
+    case 0: x->length -= x->length > 0; return; // most often: no final LF
+    case 1: x->length = i; return;
+    case 2: put(x, "\n", 1); return;
+    case 3: put(x, "row\topen\t1", 10); return;
+    case 4:
+        if (i < x->length)
+            x->bytes[i] = (uint8_t)b;
+        return;
+    default: // a byte more
+        put(x, &b, 1);
+        memmove(x->bytes + i + 1, x->bytes + i, x->length - 1 - i);
+        x->bytes[i] = (uint8_t)b;
+    }
+}
+
+// A row line stands after record lines now and then, where a line is to be bad.
+static void put_lines(struct text *x, size_t rows, size_t records, size_t bad)
+{
+    x->length = 0;
+    x->rows = rows;
+    x->records = records;
+    for (size_t i = 0; i < rows + records; i++)
+        if (i < rows)
+            put_row(x, i == bad);
+        else if (i == bad && percent(20))
+            put_row(x, 0);
+        else
+            put_record(x, i == bad);
+}
+
+void draw_text(struct text *x)
+{
+    int large = below(100) == 0;
+    size_t rows = large ? 250 + below(20) : below(6), records = large ? 1010 + below(30) : below(6);
+    size_t bad = percent(40) ? below(rows + records + 1) : SIZE_MAX;
+    put_lines(x, rows, records, bad);
+    if (percent(20))
+        damage_bytes(x);
+}
+
+// A record line of n bytes, 14 to 27.
+static void put_record_of(struct text *x, size_t n)
+{
+    static const char *const numbers[] = {"7", "42", "999"};
+    const char *name = n < 23 ? "or" : "extract";
+    size_t more = n - 12 - strlen(name);
+    put(x, "op\t", 3);
+    put(x, name, strlen(name));
+    for (int i = 0; i < 4; i++) {
+        size_t digits = more > 2 ? 2 : more;
+        more -= digits;
+        put(x, "\t", 1);
+        put(x, numbers[digits], digits + 1);
+    }
+    put(x, "\n", 1);
+}
+
+void draw_text_of(struct text *x, size_t length)
+{
+    put_lines(x, 1 + below(20), 0, SIZE_MAX);
+    for (; x->length < length; x->records++) {
+        size_t left = length - x->length;
+        put_record_of(x, left < 28 ? left : left < 55 ? left / 2 : 14 + below(14));
+    }
+}

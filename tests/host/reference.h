@@ -1,0 +1,68 @@
+// An independent implementation of the calls, by enumeration and plain code. It shares no code with the library.
+#ifndef REFERENCE_H
+#define REFERENCE_H
+
+#include <stddef.h>
+#include <stdint.h>
+
+// A result (refusal 0) or a refusal.
+struct ref_answer {
+    uint32_t refusal;
+    size_t place, first;
+    uint64_t second;
+};
+
+// Five lent slices, each with its own length.
+struct ref_table {
+    uint8_t *width, *lock;
+    uint32_t *mask, *value, *words;
+    size_t widths, locks, masks, values, wordCount;
+};
+
+enum { KINDS = 21, ITE = 20 };
+
+// What a word of a record means for its kind.
+enum use { NOTHING, ROW, NUMBER };
+
+struct kind {
+    const char *name;
+    enum use a, b, p;
+};
+
+extern const struct kind kinds[KINDS];
+
+// A record's operation on plain numbers: widths of target and operands, parameter, and the operands a, b and the row of p.
+struct ref_op {
+    uint32_t kind, p;
+    unsigned wt, w[3];
+};
+
+uint64_t ref_bit(uint64_t n, unsigned k);
+
+// The new number of the target row.
+uint64_t ref_plain(const struct ref_op *o, uint64_t a, uint64_t b, uint64_t c);
+
+// The operands' bits that can make a difference to bit k of the result.
+void ref_needed(const struct ref_op *o, unsigned k, uint64_t need[3]);
+
+struct ref_answer ref_result(size_t first, uint64_t second);
+struct ref_answer ref_refusal(uint32_t number, size_t place);
+
+// Refusals 6 to 10 of record r alone, 10 only where lockedToo: a refusal number, or 0.
+uint32_t ref_record(const struct ref_table *t, size_t r, int lockedToo);
+
+// Refusals 1 to 10: without a stretch (no check of first and last, and no 10) where run is 0.
+struct ref_answer ref_check(const struct ref_table *t, int run, size_t first, size_t last);
+
+// One record's step. 0 where it would take more than 2^limit choices for a bit: the rows are then as they were.
+int ref_step(struct ref_table *t, size_t r, unsigned limit);
+
+// exact becomes 0 where a step would take more than 2^limit choices for a bit: the answer then says nothing.
+struct ref_answer ref_run(struct ref_table *t, size_t first, size_t last, unsigned limit, int *exact);
+struct ref_answer ref_count(const struct ref_table *t, size_t row);
+struct ref_answer ref_size(const struct ref_table *t);
+struct ref_answer ref_write(const struct ref_table *t, uint8_t *out, size_t length);
+struct ref_answer ref_read(const uint8_t *text, size_t length, struct ref_table *t);
+struct ref_answer ref_field(const uint8_t *text, size_t length, size_t line, size_t field);
+
+#endif

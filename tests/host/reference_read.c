@@ -1,0 +1,126 @@
+// The text of a table: read, line by line.
+#include "reference.h"
+#include <string.h>
+
+// A part of the text.
+struct part {
+    const uint8_t *at;
+    size_t length;
+};
+
+static int is_word(struct part f, const char *word)
+{
+    return f.length == strlen(word) && memcmp(f.at, word, f.length) == 0;
+}
+
+// The fields of a line, at most seven of them: a line with more has no place in the grammar.
+static size_t cut(struct part line, struct part fields[7])
+{
+    size_t n = 0, start = 0;
+    for (size_t i = 0; i <= line.length && n < 7; i++)
+        if (i == line.length || line.at[i] == '\t') {
+            fields[n++] = (struct part){line.at + start, i - start};
+            start = i + 1;
+        }
+    return n;
+}
+
+// A number 0 to 999, or -1.
+static int number(struct part f)
+{
+    int n = 0;
+    if (f.length < 1 || f.length > 3 || (f.length > 1 && f.at[0] == '0'))
+        return -1;
+    for (size_t i = 0; i < f.length; i++) {
+        if (f.at[i] < '0' || f.at[i] > '9')
+            return -1;
+        n = 10 * n + (f.at[i] - '0');
+    }
+    return n;
+}
+
+struct row {
+    uint8_t width, lock;
+    uint32_t mask, value;
+};
+
+static int row_line(const struct part *f, size_t n, struct row *row)
+{
+    if (n != 3 || !is_word(f[0], "row") || !(is_word(f[1], "open") || is_word(f[1], "locked")))
+        return 0;
+    if (f[2].length < 1 || f[2].length > 32)
+        return 0;
+    *row = (struct row){(uint8_t)f[2].length, is_word(f[1], "locked"), 0, 0};
+    for (size_t i = 0; i < f[2].length; i++) {
+        if (f[2].at[i] == 0 || strchr("01X", f[2].at[i]) == NULL)
+            return 0;
+        row->mask = row->mask << 1 | (f[2].at[i] == 'X');
+        row->value = row->value << 1 | (f[2].at[i] == '1');
+    }
+    return 1;
+}
+
+static int record_line(const struct part *f, size_t n, uint32_t words[5])
+{
+    if (n != 6 || !is_word(f[0], "op"))
+        return 0;
+    words[0] = KINDS;
+    for (uint32_t k = 0; k < KINDS; k++)
+        if (is_word(f[1], kinds[k].name))
+            words[0] = k;
+    for (int i = 1; i < 5; i++) {
+        if (number(f[1 + i]) < 0)
+            return 0;
+        words[i] = (uint32_t)number(f[1 + i]);
+    }
+    return words[0] != KINDS;
+}
+
+// Goes over the lines, counts them and, where fill is 1, puts rows and records into t. The first bad line, from 1, or 0.
+static size_t lines(struct part text, struct ref_table *t, int fill, size_t *rows, size_t *records)
+{
+    size_t start = 0, line = 1;
+    for (*rows = *records = 0; start < text.length; line++) {
+        struct part fields[7];
+        struct row row;
+        uint32_t words[5];
+        const uint8_t *end = memchr(text.at + start, '\n', text.length - start);
+        if (end == NULL)
+            return line;
+        size_t length = (size_t)(end - (text.at + start));
+        size_t n = cut((struct part){text.at + start, length}, fields);
+        if (*records == 0 && row_line(fields, n, &row)) {
+            if (fill) {
+                t->width[*rows] = row.width;
+                t->lock[*rows] = row.lock;
+                t->mask[*rows] = row.mask;
+                t->value[*rows] = row.value;
+            }
+            ++*rows;
+        } else if (record_line(fields, n, words)) {
+            if (fill)
+                memcpy(t->words + 5 * *records, words, sizeof words);
+            ++*records;
+        } else
+            return line;
+        start += length + 1;
+    }
+    return 0;
+}
+
+struct ref_answer ref_read(const uint8_t *text, size_t length, struct ref_table *t)
+{
+    struct part whole = {text, length};
+    size_t rows, records;
+    if (t->locks != t->widths || t->masks != t->widths || t->values != t->widths)
+        return ref_refusal(2, 0);
+    if (length > 40000)
+        return ref_refusal(11, 0);
+    size_t bad = lines(whole, t, 0, &rows, &records);
+    if (bad != 0)
+        return ref_refusal(12, bad);
+    if (rows > t->widths || 5 * records > t->wordCount)
+        return ref_refusal(13, 0);
+    lines(whole, t, 1, &rows, &records);
+    return ref_result(rows, records);
+}

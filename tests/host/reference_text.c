@@ -1,0 +1,68 @@
+// The text of a table: write and field.
+#include "reference.h"
+#include <stdio.h>
+#include <string.h>
+
+// The text, put into a buffer of its own; its length is at most size.
+static size_t print_table(const struct ref_table *t, char *out)
+{
+    char *at = out;
+    for (size_t i = 0; i < t->widths; i++) {
+        at += sprintf(at, "row\t%s\t", t->lock[i] == 1 ? "locked" : "open");
+        for (unsigned k = t->width[i]; k-- > 0;)
+            *at++ = t->mask[i] >> k & 1 ? 'X' : t->value[i] >> k & 1 ? '1' : '0';
+        *at++ = '\n';
+    }
+    for (size_t r = 0; r < t->wordCount / 5; r++) {
+        const uint32_t *w = t->words + 5 * r;
+        at += sprintf(at, "op\t%s\t%u\t%u\t%u\t%u\n", kinds[w[0]].name, w[1], w[2], w[3], w[4]);
+    }
+    return (size_t)(at - out);
+}
+
+struct ref_answer ref_write(const struct ref_table *t, uint8_t *out, size_t length)
+{
+    static char text[44 * 256 + 24 * 1024 + 100];
+    struct ref_answer a = ref_size(t);
+    if (a.refusal != 0)
+        return a;
+    if (length < a.first)
+        return ref_refusal(14, 0);
+    size_t n = print_table(t, text);
+    memcpy(out, text, n);
+    return ref_result(n, 0);
+}
+
+// ---- field
+
+// Narrows the ends to part number n, from 1, of the bytes between them, cut at the separator. An empty part where there is
+// none: at the start for number 0, at the end for a number too high.
+static void narrow(const uint8_t *text, uint8_t separator, size_t n, size_t *start, size_t *end)
+{
+    if (n == 0) {
+        *end = *start;
+        return;
+    }
+    size_t at = *start;
+    for (size_t part = 1; part < n; part++) {
+        while (at < *end && text[at] != separator)
+            at++;
+        if (at == *end) {
+            *start = *end;
+            return;
+        }
+        at++;
+    }
+    *start = at;
+    while (at < *end && text[at] != separator)
+        at++;
+    *end = at;
+}
+
+struct ref_answer ref_field(const uint8_t *text, size_t length, size_t line, size_t field)
+{
+    size_t start = 0, end = length;
+    narrow(text, '\n', line, &start, &end);
+    narrow(text, '\t', field, &start, &end);
+    return ref_result(start, end);
+}
