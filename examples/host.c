@@ -77,5 +77,7 @@ int main(void)
     words[5 * 1 + 1] = 1; // add, into the locked row 1
     run();
 
-    return load("row\topen\t0X\nop\tadd\t0\t0\t00\t0\n"); // 0 is written with one digit
+    if (load("row\topen\t0X\nop\tadd\t0\t0\t00\t0\n")) // 0 is written with one digit
+        return 1;
+    return 0;
 }

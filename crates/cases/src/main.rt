@@ -1,6 +1,8 @@
 // Runs stored texts through `evaluate_text` and compares what it prints with what is stored beside them. The arguments name the pairs: a text, then what it prints.
 ghost use Prim.Native.Nat.{_≤_};
 ghost use lib.ListN.{length};
+use evaluation::OUTPUT_ROOM;
+use evaluation::TEXT_ROOM;
 use libc::STDOUT_FILENO;
 
 // A line: a word, and a name.
@@ -26,9 +28,9 @@ fn load(path: &[u8], buffer: &mut [u8]) -> usize
 
 // Whether the text in one file prints what the other file holds; a text that does not is named.
 fn passes(text_path: &[u8], right_path: &[u8]) -> bool {
-    let mut text = [0u8; 40002];
-    let mut right = [0u8; 40002];
-    let mut out = [0u8; 35840];
+    let mut text = [0u8; TEXT_ROOM];
+    let mut right = [0u8; TEXT_ROOM];
+    let mut out = [0u8; OUTPUT_ROOM];
     let n = load(text_path, &mut text);
     let m = evaluation::evaluate_text(&text[..n], &mut out);
     let k = load(right_path, &mut right);

@@ -6,11 +6,22 @@ ghost use Rattle.evaluation.specs.Evaluate.{Printed, outputRoom, refused
 use lines::put::put_number;
 use lines::put::put_word;
 use tables::RunAnswer;
+use tables::limits::RECORD_WORDS;
+use tables::limits::ROW_LIMIT;
 use tables::run;
 use texts::BytesAnswer;
 use texts::ReadAnswer;
 use texts::read;
 use texts::write;
+
+// One byte more than a text may have: a buffer that shows a longer text to be longer.
+pub const TEXT_ROOM: usize = 40001;
+
+// Size's bytes for 256 rows and 1,024 records, which no output exceeds.
+pub const OUTPUT_ROOM: usize = 35840;
+
+// The words of 1,024 records.
+const HELD_WORDS: usize = 5120;
 
 // The line of a refusal, put into the buffer from its start; its bytes are counted.
 fn put_refusal(out: &mut [u8], number: u32, place: usize) -> usize
@@ -36,7 +47,7 @@ fn print_table(
     requires { ⌜ outputRoom ≤ length (now out) ⌝ }
     ensures { λ r. ⌜ Printed (printedTable (lent (now (width .entry)) (now (lock .entry)) (now (mask .entry)) (now (value .entry)) (now (words .entry)))) r (now (out .entry)) (now (out .exit)) ⌝ }
 {
-    let last = words.len() / 5;
+    let last = words.len() / RECORD_WORDS;
     match run(width, lock, mask, value, words, 0, last) {
         RunAnswer::Refused(r) => {
             return put_refusal(out, r.number, r.place);
@@ -65,7 +76,7 @@ fn evaluate_in(
     match read(text, width, lock, mask, value, words) {
         ReadAnswer::Refused(r) => put_refusal(out, r.number, r.place),
         ReadAnswer::Read(rows, records) => {
-            let n = 5 * records;
+            let n = RECORD_WORDS * records;
             print_table(
                 &width[..rows],
                 &lock[..rows],
@@ -83,11 +94,11 @@ pub fn evaluate_text(text: &[u8], out: &mut [u8]) -> usize
     requires { ⌜ outputRoom ≤ length (now out) ⌝ }
     ensures { λ r. ⌜ Printed (evaluateOf (now (text .entry))) r (now (out .entry)) (now (out .exit)) ⌝ }
 {
-    let mut width = [0u8; 256];
-    let mut lock = [0u8; 256];
-    let mut mask = [0u32; 256];
-    let mut value = [0u32; 256];
-    let mut words = [0u32; 5120];
+    let mut width = [0u8; ROW_LIMIT];
+    let mut lock = [0u8; ROW_LIMIT];
+    let mut mask = [0u32; ROW_LIMIT];
+    let mut value = [0u32; ROW_LIMIT];
+    let mut words = [0u32; HELD_WORDS];
     evaluate_in(
         text,
         &mut width,

@@ -9,9 +9,7 @@ ghost use Rattle.tables.specs.Coded.{useCode, ruleOf, ruleCodes};
 ghost use mathlib.Core.Bool.{_&&_};
 ghost use lib.Dec.{eqb};
 ghost use lib.ListN.{getD};
-
-// How many kinds there are; their numbers are below it.
-pub const KINDS: u32 = 21;
+use crate::limits::PARAMETER_LIMIT;
 
 // What the word b is to each kind: 0 nothing, 1 a row, 2 a number.
 const SECOND: [u8; 21] = [
@@ -127,7 +125,7 @@ pub fn word_misused(code: u8, word: u32) -> bool
         return false;
     }
     if code == 2 {
-        return 31 < word;
+        return PARAMETER_LIMIT < word;
     }
     word != 0
 }

@@ -8,12 +8,16 @@ ghost use Rattle.tables.specs.Run.{runOf, countOf};
 ghost use Rattle.tables.specs.Coded.{RowSlices, headChecks, bodyChecks};
 ghost use Prim.Native.Nat.{_≤_};
 ghost use Rattle.tables.specs.Demand.{Demand3};
+use limits::RECORD_LIMIT;
+use limits::RECORD_WORDS;
+use limits::ROW_LIMIT;
 use records::check_records;
 use rows::check_rows;
 use stepping::step_all;
 ghost use Rattle.tables.specs.Meant.{lent, held, meant, judged, runMeant, ran, countMeant};
 
 mod described; // described.rt: what each kind uses and asks of the widths
+pub mod limits; // limits.rt: numbers that 01 sets
 mod records; // records.rt: checks 6 to 10
 mod rows; // rows.rt: checks 4 and 5
 mod stepping; // stepping.rt: what records do to the rows
@@ -48,7 +52,7 @@ pub fn check_shape(width: &[u8], lock: &[u8], mask: &[u32], value: &[u32]) -> Ve
     if n == 0 {
         return refuse(1, 0);
     }
-    if 256 < n {
+    if ROW_LIMIT < n {
         return refuse(1, 0);
     }
     if lock.len() != n {
@@ -67,10 +71,10 @@ pub fn check_shape(width: &[u8], lock: &[u8], mask: &[u32], value: &[u32]) -> Ve
 pub fn check_words(words: &[u32]) -> Verdict
     ensures { λ r. ⌜ meant r ≡ judged (placed 0 (wordFaults (lent [] [] [] [] (now (words .entry))))) ⌝ }
 {
-    if words.len() % 5 != 0 {
+    if words.len() % RECORD_WORDS != 0 {
         return refuse(3, 0);
     }
-    if 1024 < words.len() / 5 {
+    if RECORD_LIMIT < words.len() / RECORD_WORDS {
         return refuse(3, 0);
     }
     Verdict::Passed
@@ -133,7 +137,7 @@ fn check_stretch(words: &[u32], first: usize, last: usize) -> Verdict
     if last < first {
         return refuse(3, 0);
     }
-    if words.len() / 5 < last {
+    if words.len() / RECORD_WORDS < last {
         return refuse(3, 0);
     }
     Verdict::Passed
@@ -236,8 +240,8 @@ pub fn run(
         }
         Verdict::Passed => {}
     }
-    let start = 5 * first;
-    let end = 5 * last;
+    let start = RECORD_WORDS * first;
+    let end = RECORD_WORDS * last;
     step_all(width, mask, value, &words[start..end]);
     RunAnswer::Done(last)
 }

@@ -14,6 +14,8 @@ use crate::described::second_use;
 use crate::described::widths_fit;
 use crate::described::word_misused;
 use crate::described::word_outside;
+use crate::limits::LAST_KIND;
+use crate::limits::RECORD_WORDS;
 use crate::refuse;
 use crate::rows::wide;
 
@@ -28,7 +30,7 @@ pub fn index(x: u32) -> usize
 fn check_named(n: usize, kind: u32, t: u32, a: u32, b: u32, p: u32, i: usize) -> Verdict
     ensures { λ r. ⌜ meant r ≡ judged (placed i (namedFaults n (kind ∷ t ∷ a ∷ b ∷ p ∷ []))) ⌝ }
 {
-    if 20 < kind {
+    if LAST_KIND < kind {
         return refuse(6, i);
     }
     if n <= index(t) {
@@ -117,7 +119,7 @@ fn check_one(locked: bool, width: &[u8], lock: &[u8], words: &[u32], i: usize) -
     requires { ⌜ (length (now width) ≤ 256) × (length (now lock) ≡ length (now width)) × (i < length (now words) / 5) ⌝ }
     ensures { λ r. ⌜ meant r ≡ judged (recordWith locked (lent (now (width .entry)) (now (lock .entry)) [] [] (now (words .entry))) i) ⌝ }
 {
-    let k = 5 * i;
+    let k = RECORD_WORDS * i;
     let kind = words[k];
     let t = words[k + 1];
     let a = words[k + 2];
@@ -138,7 +140,7 @@ pub fn check_records(locked: bool, width: &[u8], lock: &[u8], words: &[u32]) -> 
     requires { ⌜ (length (now width) ≤ 256) × (length (now lock) ≡ length (now width)) ⌝ }
     ensures { λ r. ⌜ meant r ≡ judged (recordsWith locked (lent (now (width .entry)) (now (lock .entry)) [] [] (now (words .entry)))) ⌝ }
 {
-    let n = words.len() / 5;
+    let n = words.len() / RECORD_WORDS;
     let mut i: usize = 0;
     while i < n {
         let found = check_one(locked, width, lock, words, i);

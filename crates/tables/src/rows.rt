@@ -6,6 +6,7 @@ ghost use Rattle.tables.specs.Checks.{rowFaults, rowChecks};
 ghost use Rattle.tables.specs.Meant.{lent, meant, judged};
 ghost use Rattle.tables.specs.Coded.{RowSlices};
 use crate::Verdict;
+use crate::limits::WIDTH_LIMIT;
 use crate::refuse;
 
 // A byte as a number of 32 bits.
@@ -22,7 +23,7 @@ fn check_row(w: u32, l: u8, m: u32, v: u32, i: usize) -> Verdict
     if w == 0 {
         return refuse(4, i);
     }
-    if 32 < w {
+    if WIDTH_LIMIT < w {
         return refuse(4, i);
     }
     if 1 < l {

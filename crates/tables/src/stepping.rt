@@ -12,6 +12,7 @@ ghost use Rattle.tables.specs.Meant.{lent, held};
 ghost use Rattle.tables.specs.Coded.{useCode, usedRow, StepReady, StretchReady};
 use crate::described::parameter_use;
 use crate::described::second_use;
+use crate::limits::RECORD_WORDS;
 use crate::records::index;
 use crate::rows::wide;
 
@@ -68,10 +69,10 @@ pub fn step_all(width: &[u8], mask: &mut [u32], value: &mut [u32], words: &[u32]
     requires { ⌜ StretchReady (now width) (held (now mask) (now value)) (now words) ⌝ }
     ensures { λ _. ⌜ held (now (mask .exit)) (now (value .exit)) ≡ after (programOf (lent (now (width .entry)) [] [] [] (now (words .entry)))) 0 (length (now (words .entry)) / 5) (held (now (mask .entry)) (now (value .entry))) ⌝ }
 {
-    let n = words.len() / 5;
+    let n = words.len() / RECORD_WORDS;
     let mut i: usize = 0;
     while i < n {
-        let k = 5 * i;
+        let k = RECORD_WORDS * i;
         step(
             width,
             mask,

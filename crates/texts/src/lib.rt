@@ -10,7 +10,6 @@ use fill::fill_records;
 use fill::fill_rows;
 use fill::survey;
 use limits::RECORD_BYTES;
-use limits::RECORD_WORDS;
 use limits::ROW_BYTES;
 use limits::TEXT_LIMIT;
 use lines::cut::LF;
@@ -21,6 +20,7 @@ use print::put_rows;
 use tables::Refusal;
 use tables::Verdict;
 use tables::check_table;
+use tables::limits::RECORD_WORDS;
 
 mod fill; // fill.rt: the two passes of read
 mod limits; // limits.rt: numbers that 01 sets

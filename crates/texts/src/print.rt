@@ -5,9 +5,9 @@ ghost use Rattle.tables.specs.Meant.{lent};
 ghost use Rattle.grammar.specs.Print.{linesText, rowLines, recordLines};
 ghost use Rattle.lines.specs.Put.{Holds, Put};
 ghost use Rattle.texts.specs.Print.{RowsFit, RecordsFit};
-use crate::limits::RECORD_WORDS;
 use lines::put::put_record;
 use lines::put::put_row;
+use tables::limits::RECORD_WORDS;
 
 fn wide(b: u8) -> u32
     ensures { λ r. ⌜ r ≡ b ⌝ }

@@ -4,9 +4,9 @@ ghost use Rattle.texts.specs.Trips.{TableBack, BytesBack};
 ghost use Rattle.texts.specs.Meant.{writeLeft, readLeft};
 use crate::BytesAnswer;
 use crate::ReadAnswer;
-use crate::limits::RECORD_WORDS;
 use crate::read;
 use crate::write;
+use tables::limits::RECORD_WORDS;
 
 // A table that is written into `out` is read back from there into other slices.
 fn write_then_read(
