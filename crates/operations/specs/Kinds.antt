@@ -1,5 +1,6 @@
 -- All kinds, and the kind that has a number (01, "Records").
 --   kinds       the 21 kinds, numbers rising
+--   numbered n ks, find n ks   a kind of the list has the number n; the first that has it, else opNone
 --   isKind n    some kind has the number n
 --   kindOf n    that kind; for a number that no kind has, opNone, which refusal 6 keeps from acting
 use mathlib.Core.Bool.{Bool, true, false, cond, _||_}

@@ -1,4 +1,4 @@
--- How the code's tables write what a kind's description says.
+-- How the code's tables write what a kind's description says. Cited by contracts of inner functions alone: no public contract rests on it.
 --   useCode u    0 nothing, 1 a row, 2 a number
 --   usedWidth    the width of the row that a word names, 0 where it names none
 --   rules        the width rules, in the order that the code counts them;  ruleOf n   rule n
