@@ -1,10 +1,11 @@
 -- What `evaluate` prints for a text (01, "Text"): "runs all records and prints the whole table, or one line of three fields".
 --   heldRows, heldRecords   how many rows and records it holds;   outputRoom   bytes that its output never exceeds
 --   Printed bytes r old new the bytes are counted by r and put into the buffer
---   refusedLine n i         the line of a refusal: its number and its place
+--   refusedWord, refusedLine n i   the first field, and the line, of a refusal: its number and its place
 --   printedRun t r          what run's outcome r on the table t prints
 --   printedTable t          all records of the table t run, and what that prints
---   evaluateIn text lent    read into the slices lent, then that;   evaluateOf text   with the slices that the program has
+--   printedRead text a      what read's answer a on the text prints;   heldSlices   the slices that the program has, all 0
+--   evaluateIn text lent    read into the slices lent, then that;   evaluateOf text   with heldSlices
 use mathlib.Core.Path.{_≡_}
 use mathlib.Core.List.{List, [], _∷_, _++_}
 use Prim.Native.Nat.{ℕ, _+_, _*_}

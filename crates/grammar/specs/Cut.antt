@@ -1,11 +1,12 @@
 -- Cutting a text at a byte, and the field that a line number and a field number name (01, "Text" and "Calls": field).
+--   onto b ps          the byte b put before the first part
 --   pieces c bs        the parts before, between and after the bytes c: always one more than there are such bytes
 --   before c bs        how many bytes stand before the first c
 --   past c n bs        how many bytes stand up to the n-th c and with it; all of them where there are fewer
 --   Ends               where a part of a text begins and ends;   between bs e   the bytes there
 --   partEnds c n bs    the ends of part n, from 1, of the bytes cut at c; an empty part where there is none
---   fieldEnds          the ends of the field named
---   Part               bytes and where they lie: a block and an offset;   fieldOf   the part of the lent text that field hands back
+--   within line field  ends inside a line, as ends inside the text;   fieldEnds   the ends of the field named
+--   Part               bytes and where they lie: a block and an offset;   partAt p e   the part of p between the ends e;   fieldOf   the part of the lent text that field hands back
 use mathlib.Core.Bool.{cond}
 use mathlib.Core.List.{List, [], _∷_}
 use Prim.Native.Nat.{ℕ, zero, suc, _+_, _-_}

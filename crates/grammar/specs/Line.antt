@@ -1,9 +1,12 @@
 -- The grammar of a line, by its fields (01, "Text").
 --   numeral base value n f   the number that the bytes of f stand for, after n
+--   isDigit b, leadingZero f a digit; more than one digit, the first of them 0
 --   isNumber f, numberOf f   a number of a record line, and which
+--   isLetter a b, maskBit a b, valueBit a b   a letter of the alphabet a, and the mask bit and the value bit that it stands for
 --   isVector a f, vectorOf a f   letters of a vector in the alphabet a, and which vector
 --   isLock f, lockOf f       `open` or `locked`, and which lock
 --   isName f ks, numberNamed f ks   the name of a kind of the list, and that kind's number
+--   rowOf e fs, recordIn e fs   the row line, and the record line, of the fields after the first
 --   lineOf e fs              the line that has the fields fs, in the edition e
 use mathlib.Core.Bool.{Bool, false, not, cond, _&&_, _||_}
 use mathlib.Core.List.{List, [], _∷_, map}

@@ -1,4 +1,5 @@
 -- The lines of a text and what they hold (01, "Text" and "Who can cause a refusal").
+--   isEmpty bs            there is no byte
 --   linesOf e ps          the lines of a text cut at LF;   linesIn text   the lines of a text
 --   firstBad later n ls   the number of the first bad line, counted on from n, or 0 where there is none
 --   rowsIn, wordsIn       the rows and the record words of lines

@@ -1,9 +1,11 @@
 -- The text of a table (01, "Text").
---   decimal n         a number in decimal
+--   digits f n, decimal n   a number in decimal, of at most f digits, and of as many as it has
 --   letter m v        the letter of a bit, from its mask bit and its value bit;   lettersOf w m v   of the lowest w bits, highest first
 --   LineRow           a row as its line tells it: lock and vector
 --   Line              a row line, a record line by the record's words, or a line outside the grammar
+--   joined c ps       parts with the byte c between any two
 --   fieldsOf, lineText, linesText   the fields of a line, its bytes, the bytes of lines
+--   lineRow t i       row i;   rowLines t, recordLines t   the lines of all rows, and of all records
 --   tableLines t      the lines of a table;   textOf t   its text
 use mathlib.Core.Bool.{cond}
 use mathlib.Core.List.{List, [], _∷_, _++_, map}

@@ -1,10 +1,10 @@
 -- The words, letters and separators of the text, each in one place (01, "Text").
 --   lf, tab            the byte that ends a line, and the one that parts its fields
---   rowWord, opWord    the first field of a row line and of a record line;   lockWord l   the second of a row line
---   zeroByte           the byte of the digit 0
+--   rowWord, opWord    the first field of a row line and of a record line;   lockWord l   the second of a row line: openWord or lockedWord
+--   zeroByte           the byte of the digit 0;   letter0, letter1, letterX   the letters of a vector
 --   Alphabet           the letters that stand for 0, for 1 and for X;   threeLetters   those of 01
 --   Edition            what a reader goes by: letters, operations, and how many numbers a record line has;   edition1   that of 01
--- Edition 1 has no header line: textOf (Print) begins with the rows, and linesIn (Calls) reads every text by edition1.
+-- Edition 1 has no header line: textOf (Print) begins with the rows, and linesIn (Lines) reads every text by edition1.
 use Prim.Native.Nat.{ℕ, _-_}
 use Prim.Native.Char.{code}
 use mathlib.Core.Bool.{cond}

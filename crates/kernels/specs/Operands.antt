@@ -1,4 +1,5 @@
 -- The operand rows of a kind, of the rows that the words a, b and p would name (01, "Records").
+--   used u r rows         r before the rows, where the use u is as a row
 --   operands k ra rb rc   those that the kind uses as rows, in the order of the words
 use mathlib.Core.List.{List, [], _∷_}
 use Rattle.vectors.specs.Row.{Row}

@@ -1,5 +1,6 @@
 -- SMT-LIB's bit vectors (theory FixedSizeBitVectors), by positions, and the functions that the theory names.
 --   Bitvector       a width, and a bit at each position below it
+--   sumTo m s       the sum of s(x) · 2^x over the positions x below m
 --   nat s           SMT-LIB's bv2nat: the sum of s(x) · 2^x over the positions x
 --   bv m n          SMT-LIB's nat2bv[m]: the vector of width m whose number is n modulo 2^m
 --   extract i j s   the vector of positions j to i of s

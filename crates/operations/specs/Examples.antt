@@ -1,5 +1,5 @@
 -- The starred worked examples of 01, as one table. A row is given by width, mask and value: X0 is row 2 0b10 0b00.
---   Example     a kind, its operand rows, and the result
+--   Example     a kind, its operand rows, and the result;   example k rows r   the one that is made of these
 --   starred     the twelve results marked * in 01, in its order
 --   computed    the results that `best` and the plain numbers give;  stated   the results that 01 gives
 use mathlib.Core.List.{List, [], _∷_, map}

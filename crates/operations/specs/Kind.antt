@@ -3,7 +3,7 @@
 --   Use             what a word of a record is to an operation: a row, a number, or nothing
 --   Kind            number, text name, use of the words a, b and p, width rule, plain number
 --   first l, second l, third l   the operands' widths or numbers, in the order of the words
---   sameWidth .. extended        the width rules that several kinds share
+--   sameWidth, sameWidths, chosenWidths, comparedWidths, joinedWidths, takenWidth, extendedWidth   the width rules
 use mathlib.Core.Bool.{Bool, _&&_}
 use mathlib.Core.List.{List, [], _∷_}
 use Prim.Native.Nat.{ℕ, _+_}

@@ -1,9 +1,11 @@
 -- A record's words, its checks 6 to 10 and its effect, all from the kind's description (01, "Records" and "Who can cause a refusal").
---   kindWord .. parameterWord   the five words of a record: kind, target row t, operand rows a and b, parameter p
+--   kindWord, targetWord, firstWord, secondWord, parameterWord   the five words of a record: kind, target row t, operand rows a and b, parameter p
 --   kindIn words     the record's kind
+--   withRow u word rows, operandWords k a b p   of the words a, b and p those that the kind uses as rows, one by one
 --   rowsNamed words  the operand rows that the words a, b and p name, in that order
 --   widthAt widths i the width of row i
---   Fault            a condition, and the number of the refusal that it causes
+--   Fault, fault b n   a condition, and the number of the refusal that it causes
+--   kindUnknown, outside, misused, widthsFit, targetLocked   the conditions of 6, 7, 8, 9 (that it does not hold) and 10
 --   namedFaults n    checks 6 to 8 against n rows;  recordFaults   checks 6 to 9, in order;  lockFault   check 10
 --   Effect           a target row, operand rows, and the target's new number as a function of the operands' numbers
 --   effectOf         a record's effect;  effectsOf   the list of its effects, that one alone

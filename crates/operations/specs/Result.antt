@@ -1,5 +1,6 @@
 -- The abstract result of a kind over operand rows, and what the checks give a kernel (01, "Abstract result" and "Records").
 --   Below ws ns          each number is below 2 to the power of its width
+--   widthsOf rows        the widths of rows
 --   resultOf k wt p rows the best vector for the kind k at target width wt, with parameter p, over the operand rows
 --   arity k              how many operand rows the kind k has
 --   Ready k wt p rows    the operands passed the checks: their count, well-formed vectors, widths that fit, parameter in range

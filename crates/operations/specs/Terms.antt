@@ -1,5 +1,7 @@
 -- The SMT-LIB term of each kind, and what it is for a term to be a kind's meaning (demand 2, first sentence).
 --   Term             a kind, a term over the target's width, the parameter and the operand vectors, and the parameters that it serves
+--   always, fitsWidth   the parameters served: all; those below 2 to the power of the width
+--   low s r, amount s p   r cut to the width of s; an amount of five bits more than s
 --   terms            one term for each kind, for every parameter that the checks let pass
 --   narrowTerms      for the shifts the term whose amount has the operand's own width, where the amount fits it
 --   left vs, right vs, condition vs   the first, second and third operand vector

@@ -1,7 +1,10 @@
 -- The checks of the calls on a table (01, "Who can cause a refusal"), each condition by name, each call's list in 01's order:
 -- "1, 2, 3; rows rising, 4 before 5; records rising, 6 to 10 in number order". Checks of a record: crate operations, Record.
---   noRows .. lastPastEnd      the conditions of 1, 2 and 3;  widthZero .. planesMeet   the conditions of 4 and 5
---   rowShapeChecks t           1 and 2;      wordChecks t      3 without a stretch;   stretchChecks t first last   3 for a stretch
+--   noRows, tooManyRows        the conditions of 1;   locksDiffer, masksDiffer, valuesDiffer   of 2
+--   wordsLeftOver, tooManyRecords, firstAfterLast, lastPastEnd   of 3
+--   widthZero, widthOver, lockOver   of 4;            planeOver, planesMeet   of 5
+--   rowOutside t i             of count's 7;          bufferShort t room   of 14;   sizeBound t   the bytes that size answers
+--   rowShapeFaults t           1 and 2;      wordFaults t      3 without a stretch;   stretchFaults t first last   3 for a stretch
 --   rowFaults w l m v          4 and 5 of a row;  rowFaultsAt t i   of row i;   rowChecks t   of all rows
 --   widthFaults w, vectorFaults w m v   their parts: a width, and a vector of that width
 --   recordChecks t             6 to 9 of all records;          openChecks t  6 to 10 of all records

@@ -1,5 +1,6 @@
 -- Demand 2's first sentence over a run: "On fully known rows each operation gives the number that SMT-LIB's theory of fixed-size bit vectors gives."
 --   KnownBefore t s rows       every operand row of record s is fully known in the rows before it
+--   smtNumber m widths words values   the number of the term m of a record, over its operand rows' values
 --   SmtNumber t s rows next    in the rows after it the target row is fully known, and is the number of the kind's SMT-LIB term
 use mathlib.Core.Path.{_≡_}
 use mathlib.Core.List.{List, List·Memᴰ, map}

@@ -1,10 +1,10 @@
 -- What run and count answer and leave (01, "Calls").
 --   programOf t         the table's widths and records, as effects
 --   effectsAt t i       the effects of record i
---   Ran                 an answer, and the rows left
+--   Ran                 an answer, and the rows left;   ranAs   these of a verdict of run's checks
 --   runOf t first last  run of the stretch of records from first up to but not including last (01's term)
 --   pointRows, plainRun the rows, and a plain run's numbers, at point s
---   countOf t i         the unknown bits u of row i, and 2^u
+--   Count, countOf t i  the unknown bits u of row i, and 2^u
 use mathlib.Core.List.{List}
 use Prim.Native.Nat.{ℕ, _-_, _^_}
 use Rattle.vectors.specs.Row.{unknowns}

@@ -1,7 +1,7 @@
 -- What records do to the rows, and to the numbers of a plain run (01, "Records", "Calls" and "Points and plain runs").
 --   put s i r              the state with the vector of r in row i
 --   putAll target row l s  of each element of l its row put at its target, first element first;  setAll  the same for numbers
---   operandRows, operandNumbers   what an effect reads
+--   operandRows, operandNumbers   what an effect reads;   result   the best vector for it
 --   step widths es s       a record with the effects es on vectors;   plainStep es ns   on plain numbers
 --   Program                widths, the effects of each record, and the number of records
 --   after P first j s      the rows after the j records from `first` on: at point first + j, 01's term

@@ -1,9 +1,12 @@
 -- What size, write and read answer and leave (01, "Calls" and "Who can cause a refusal").
 --   sizeOf t                     size's answer
---   Written, writeOf t out       write's answer, and the buffer that it leaves
---   readChecks text lent         what read refuses, in order, each condition by name
+--   Written, writeOf t out       write's answer, and the buffer that it leaves;   writtenAs   these of a verdict of write's checks
+--   lentChecks, lengthChecks, lineChecks, roomChecks   2, 11, 12 and 13 of read
+--   textOver, rowsExceed, wordsExceed   the conditions of 11 and 13;   badLine text   the first bad line, from 1, or 0
+--   readChecks text lent         what read refuses, in order
 --   Counts, countsOf t           how many rows and records
---   ReadBack, readOf text lent   read's answer, and the five slices that it leaves
+--   ReadBack, readOf text lent   read's answer, and the five slices that it leaves;   readAs   these of a verdict of read's checks
+--   filledWith new lent          the slices with the table new at their start
 use mathlib.Core.Bool.{Bool, false, not}
 use mathlib.Core.List.{List, [], _∷_, _++_}
 use Prim.Native.Nat.{ℕ}
