@@ -1,0 +1,41 @@
+// Two kernels as a C or C++ program can call them, so that a benchmark measures them beside other code. Host programs link
+// `rifflerleek`, which has none of this: here the caller has to bring what the kernels take for granted.
+ghost use mathlib.Core.Path.{_≡_};
+ghost use mathlib.Core.List.{[], _∷_};
+ghost use Prim.Native.Nat.{_≤_};
+ghost use Rattle.vectors.specs.Row.{row};
+ghost use Rattle.operations.specs.Arithmetic.{opAdd, opMul};
+ghost use Rattle.operations.specs.Result.{resultOf, Ready};
+
+// Mask and value of a result.
+#[repr(C)]
+pub struct Planes {
+    pub mask: u32,
+    pub value: u32,
+}
+
+// `products::mul`.
+#[no_mangle]
+pub extern "C" fn kernel_mul(w: u32, ma: u32, va: u32, mb: u32, vb: u32) -> Planes
+    requires { ⌜ (w ≤ 32) × Ready opMul w 0 (row w ma va ∷ row w mb vb ∷ []) ⌝ }
+    ensures { λ r. ⌜ row w (r .mask) (r .value) ≡ resultOf opMul w 0 (row w ma va ∷ row w mb vb ∷ []) ⌝ }
+{
+    let r = products::mul(w, ma, va, mb, vb);
+    Planes {
+        mask: r.mask,
+        value: r.value,
+    }
+}
+
+// `sums::add`.
+#[no_mangle]
+pub extern "C" fn kernel_add(w: u32, ma: u32, va: u32, mb: u32, vb: u32) -> Planes
+    requires { ⌜ (w ≤ 32) × Ready opAdd w 0 (row w ma va ∷ row w mb vb ∷ []) ⌝ }
+    ensures { λ r. ⌜ row w (r .mask) (r .value) ≡ resultOf opAdd w 0 (row w ma va ∷ row w mb vb ∷ []) ⌝ }
+{
+    let r = sums::add(w, ma, va, mb, vb);
+    Planes {
+        mask: r.mask,
+        value: r.value,
+    }
+}
