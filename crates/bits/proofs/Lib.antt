@@ -9,3 +9,5 @@ pub mod Carries
 pub mod Counts
 pub mod Reversed
 pub mod Listed
+pub mod Words
+pub mod Zeros

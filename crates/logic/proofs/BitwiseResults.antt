@@ -12,7 +12,7 @@ use Rattle.bits.proofs.Constants.{bit-ones, bit-complement}
 use Rattle.vectors.specs.Row.{row}
 use Rattle.operations.specs.Moves.{opNot, opAnd, opOr, opXor}
 use Rattle.operations.specs.Result.{resultOf, Ready}
-use Rattle.logic.proofs.Words.{bit-clear}
+use Rattle.bits.proofs.Words.{bit-clear}
 use Rattle.logic.proofs.Operands.{chosen-at}
 use Rattle.logic.proofs.Bitwise.{bitsAt-getD, bitwise-best}
 use Rattle.logic.proofs.Letters.{letter, not-table, and-table, or-table, xor-table, two-rows}

@@ -22,7 +22,7 @@ use Rattle.vectors.specs.Best.{best}
 use Rattle.vectors.proofs.Rows.{covers-value, covers-top, and-of-apart}
 use Rattle.vectors.proofs.Joins.{differ-cases}
 use Rattle.vectors.proofs.BestLaws.{known-covers}
-use Rattle.logic.proofs.Words.{bit-clear}
+use Rattle.bits.proofs.Words.{bit-clear}
 use Rattle.logic.proofs.Operands.{chosen-at}
 use Rattle.logic.proofs.Tests.{Tells, Tested, tests-best}
 

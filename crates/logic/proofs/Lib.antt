@@ -1,6 +1,5 @@
 -- The laws of the kernels, and the proofs of the functions of `logic`.
 -- What several kernels share
-pub mod Words
 pub mod Operands
 pub mod Readies
 -- Bit by bit: not, and, or, xor

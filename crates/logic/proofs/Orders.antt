@@ -12,8 +12,7 @@ use lib.ListN.{getD}
 use Rattle.bits.specs.Bit.{digit}
 use Rattle.vectors.specs.Row.{Row, row, WellFormed, Covers}
 use Rattle.vectors.specs.Best.{best}
-use Rattle.vectors.proofs.Rows.{top, covers-value, covers-top, between}
-use Rattle.logic.proofs.Words.{le-of-bits}
+use Rattle.vectors.proofs.Rows.{top, covers-value, covers-top, value-least, top-greatest}
 use Rattle.logic.proofs.Operands.{chosen-at}
 use Rattle.logic.proofs.Tests.{Tells, Tested, tests-best}
 
@@ -74,6 +73,6 @@ unsigned r F =
     record {
       low = record { member = r .value; covered = covers-value r F; key-is = refl };
       high = record { member = top r; covered = covers-top r F; key-is = refl };
-      from = λ n c. le-of-bits (r .width) (r .value) n (F .value-below) (c .below) (λ k l. between r n F c k l .0);
-      to = λ n c. le-of-bits (r .width) n (top r) (c .below) (covers-top r F .below) (λ k l. between r n F c k l .1);
+      from = λ n c. value-least r n F c;
+      to = λ n c. top-greatest r n F c;
     }

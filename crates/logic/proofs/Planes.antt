@@ -16,7 +16,7 @@ use Rattle.bits.proofs.Shifts.{bit-div, top-zero}
 use Rattle.bits.proofs.Numbers.{isSet-same, number-ext}
 use Rattle.operations.specs.Moves.{opShl, opAshr, opExtract, opConcat, opSext}
 use Rattle.operations.proofs.SmtBits.{sign-extended}
-use Rattle.logic.proofs.Words.{cut-twice}
+use Rattle.bits.proofs.Words.{cut-twice}
 
 pub shl-word : (w p x n : ℕ) → w ≤ n → bitAnd (x * 2 ^ p % 2 ^ n) (2 ^ w - 1) ≡ opShl .plain w (w ∷ []) p (x ∷ [])
 unfolding opShl

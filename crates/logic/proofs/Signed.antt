@@ -12,7 +12,7 @@ use lib.Bits.{bitAnd, bitOr, bitXor, differ, and-le-l, xor-lt}
 use Rattle.bits.specs.Bit.{bit}
 use Rattle.bits.proofs.Bits.{bit-lt, bit-above, bit-xor, bit-ext}
 use Rattle.vectors.specs.Row.{row, WellFormed, Covers}
-use Rattle.logic.proofs.Words.{bit-clear}
+use Rattle.bits.proofs.Words.{bit-clear}
 use Rattle.logic.proofs.Orders.{Reached, Extremes, unsigned}
 
 unfoldable pub flip : ℕ → ℕ → ℕ

@@ -4,12 +4,8 @@ use Prim.Native.Nat.{ℕ, _+_, _-_, _%_, _^_, _≤_, _<_}
 use native.Mathlib.Nat.{mod-add-mod, add-mod-right, add-assoc}
 use native.Mathlib.Omega.{arith}
 use lib.Bits.{bitAnd, and-mask}
-use lib.Pow.{mod-mod-pow, not-mod}
-
-pub mod-cut : (w v n : ℕ) → w ≤ v → n % 2 ^ v % 2 ^ w ≡ n % 2 ^ w
-mod-cut w v n h =
-    let e : v ≡ v - w + w = omega arith in
-    ap (λ (k : ℕ). n % 2 ^ k % 2 ^ w) e ∙ mod-mod-pow n (v - w) w
+use lib.Pow.{not-mod}
+use Rattle.bits.proofs.Words.{cut-twice}
 
 -- a wrapping difference d of x and y, as a sum
 pub sub-cut : (w v d x y : ℕ) → w ≤ v → y < 2 ^ w → (d + y) % 2 ^ v ≡ x → d % 2 ^ w ≡ (x + (2 ^ w - 1 - y) + 1) % 2 ^ w
@@ -18,7 +14,7 @@ sub-cut w v d x y h l e =
     sym (add-mod-right d (2 ^ w))
     ∙ ap (λ (n : ℕ). n % 2 ^ w) (sym g)
     ∙ sym (mod-add-mod (d + y) (2 ^ w) (2 ^ w - 1 - y + 1))
-    ∙ ap (λ (n : ℕ). (n + (2 ^ w - 1 - y + 1)) % 2 ^ w) (sym (mod-cut w v (d + y) h))
+    ∙ ap (λ (n : ℕ). (n + (2 ^ w - 1 - y + 1)) % 2 ^ w) (sym (cut-twice w v (d + y) h))
     ∙ mod-add-mod ((d + y) % 2 ^ v) (2 ^ w) (2 ^ w - 1 - y + 1)
     ∙ ap (λ (n : ℕ). n % 2 ^ w) (ap (λ (n : ℕ). n + (2 ^ w - 1 - y + 1)) e ∙ sym (add-assoc x (2 ^ w - 1 - y) 1))
 

@@ -9,7 +9,8 @@ use Rattle.vectors.proofs.Rows.{covers-top}
 use Rattle.operations.specs.Arithmetic.{opAdd, opSub, opNeg}
 use Rattle.operations.specs.Result.{resultOf, Ready}
 use Rattle.sums.proofs.Complements.{top-complement}
-use Rattle.sums.proofs.Cuts.{mod-cut, sub-cut}
+use Rattle.bits.proofs.Words.{cut-twice}
+use Rattle.sums.proofs.Cuts.{sub-cut}
 use Rattle.sums.proofs.AsSums.{add-sum, sub-sum, neg-sum}
 use Rattle.sums.proofs.Kernels.{made-best}
 
@@ -27,7 +28,7 @@ module _ (w v : ℕ) (h : w ≤ v) where
         (record { least-is = cut (va + vb) least l; greatest-is = cut (bitOr va ma + bitOr vb mb) greatest g; mask-is = E .0; value-is = E .1 })
       where
         cut : (s n : ℕ) → n ≡ s % 2 ^ v → n % 2 ^ w ≡ (s + 0) % 2 ^ w
-        cut s n e = ap (λ (y : ℕ). y % 2 ^ w) e ∙ mod-cut w v s h ∙ ap (λ (y : ℕ). y % 2 ^ w) (sym (add-zero s))
+        cut s n e = ap (λ (y : ℕ). y % 2 ^ w) e ∙ cut-twice w v s h ∙ ap (λ (y : ℕ). y % 2 ^ w) (sym (add-zero s))
 
     pub sub-result : Ready opSub w 0 (row w ma va ∷ row w mb vb ∷ []) → (least + bitOr vb mb) % 2 ^ v ≡ va → (greatest + vb) % 2 ^ v ≡ bitOr va ma
         → row w m x ≡ resultOf opSub w 0 (row w ma va ∷ row w mb vb ∷ [])

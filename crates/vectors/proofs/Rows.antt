@@ -1,11 +1,14 @@
--- What a row covers: its value, its greatest number, and numbers with a given bit. Assumes nothing.
+-- What a row covers: its value, with some unknown bits set or all of them, and numbers with a given bit. Assumes nothing.
 use mathlib.Core.Path.{_≡_, refl, sym, ap, _∙_}
 use mathlib.Core.Logic.{_⊎_, inl, inr}
 use Prim.Native.Nat.{ℕ, zero, suc, _^_, _≤_, _<_, min, max}
+use native.Mathlib.Nat.{le-refl, lt-of-le-of-lt}
 use native.Mathlib.Omega.{arith}
-use lib.Bits.{bitAnd, bitOr, and-lt, or-lt}
+use lib.Bits.{bitAnd, bitOr, and-lt, and-le-r, or-lt}
 use Rattle.bits.specs.Bit.{bit}
-use Rattle.bits.proofs.Bits.{bit-lt, bit-cases, bit-and, bit-or, bit-ext, bit-of-zero}
+use Rattle.bits.proofs.Bits.{bit-lt, bit-cases, bit-and, bit-or, bit-above, bit-ext, bit-of-zero}
+use Rattle.bits.proofs.Numbers.{below-of-bits}
+use Rattle.bits.proofs.Words.{le-of-bits}
 use Rattle.vectors.specs.Row.{Row, WellFormed, Covers}
 
 -- the least number that a well-formed row covers is its value
@@ -16,12 +19,17 @@ covers-value r F = record { below = F .value-below; agrees = λ k h e. refl }
 abbrev pub top : Row → ℕ
 top r = bitOr (r .value) (r .mask)
 
-pub covers-top : (r : Row) → WellFormed r → Covers r (top r)
-covers-top r F =
+-- the value with some unknown bits set
+pub covers-part : (r : Row) (s : ℕ) → WellFormed r → ((k : ℕ) → bit s k ≤ bit (r .mask) k) → Covers r (bitOr (r .value) s)
+covers-part r s F h =
     record {
-      below = or-lt (r .width) (r .value) (r .mask) (F .value-below) (F .mask-below);
-      agrees = λ k h e. bit-or (r .value) (r .mask) k ∙ (let z = e in omega arith);
+      below = or-lt (r .width) (r .value) s (F .value-below)
+          (below-of-bits (r .width) s (λ k l. let z = bit-above (r .width) (r .mask) k (F .mask-below) l in let y = h k in omega arith));
+      agrees = λ k l e. bit-or (r .value) s k ∙ (let y = h k in omega arith);
     }
+
+pub covers-top : (r : Row) → WellFormed r → Covers r (top r)
+covers-top r F = covers-part r (r .mask) F (λ k. le-refl (bit (r .mask) k))
 
 -- the bits of a covered number lie between
 pub between : (r : Row) (n : ℕ) → WellFormed r → Covers r n → (k : ℕ) → k < r .width → (bit (r .value) k ≤ bit n k) × (bit n k ≤ bit (top r) k)
@@ -31,6 +39,23 @@ between r n F C k h =
       | inl e ↦ let z = C .agrees k h e in omega arith
       | inr e ↦ let z = F .apart k e in let l = bit-lt n k in omega arith
     ]
+
+pub value-least : (r : Row) (n : ℕ) → WellFormed r → Covers r n → r .value ≤ n
+value-least r n F C = le-of-bits (r .width) (r .value) n (F .value-below) (C .below) (λ k l. between r n F C k l .0)
+
+pub top-greatest : (r : Row) (n : ℕ) → WellFormed r → Covers r n → n ≤ top r
+top-greatest r n F C = le-of-bits (r .width) n (top r) (C .below) (covers-top r F .below) (λ k l. between r n F C k l .1)
+
+-- every covered number is the value with some unknown bits set
+pub covered-part : (r : Row) (n : ℕ) → WellFormed r → Covers r n → n ≡ bitOr (r .value) (bitAnd n (r .mask))
+covered-part r n F C =
+    bit-ext (r .width) n (bitOr (r .value) (bitAnd n (r .mask))) (C .below)
+    (or-lt (r .width) (r .value) (bitAnd n (r .mask)) (F .value-below) (lt-of-le-of-lt (and-le-r n (r .mask)) (F .mask-below)))
+    (λ k l. at k l (bit-cases (r .mask) k) ∙ sym (bit-or (r .value) (bitAnd n (r .mask)) k))
+  where
+    at : (k : ℕ) → k < r .width → (bit (r .mask) k ≡ 0) ⊎ (bit (r .mask) k ≡ 1) → bit n k ≡ max (bit (r .value) k) (bit (bitAnd n (r .mask)) k)
+    at k l (inl e) = let z = bit-and n (r .mask) k in let a = C .agrees k l e in omega arith
+    at k l (inr e) = let z = bit-and n (r .mask) k in let a = F .apart k e in let b = bit-lt n k in omega arith
 
 -- a covered number that has b at bit k
 pub pick : (r : Row) → WellFormed r → (k b : ℕ) → b < 2 → (bit (r .mask) k ≡ 1) ⊎ (bit (r .value) k ≡ b) → (n : ℕ) × Covers r n × (bit n k ≡ b)

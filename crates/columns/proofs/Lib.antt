@@ -1,0 +1,8 @@
+-- The laws of a product's columns.
+pub mod ProductMask
+pub mod Marked
+pub mod Untouched
+pub mod Between
+pub mod Ends
+pub mod Parts
+pub mod EveryChoice

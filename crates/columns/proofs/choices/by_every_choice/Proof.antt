@@ -1,0 +1,66 @@
+-- `by_every_choice` meets its contract. The loop's invariant: every choice above s was tried. Assumes nothing.
+use mathlib.Core.Path.{_≡_, subst₂}
+use Prim.Native.Nat.{ℕ, _-_}
+use native.Mathlib.Nat.{lt-of-le-of-lt}
+use native.Mathlib.Omega.{arith}
+use lib.Bits.{and-le-l}
+use borrow.Author.Needs.{needs}
+use Rattle.columns.proofs.EveryChoice.{joined-word, joined-below, Tried, tried-start, tried-next, every-choice}
+use Rattle.columns.proofs.choices.by_every_choice.Statement.{statement}
+use Rattle.columns.proofs.choices.by_every_choice.Tie as tie
+use Rattle.columns.proofs.choices.chosen.Reads as chosen-reads
+use Rattle.columns.proofs.product.Reads as product-reads
+
+abbrev Inv-loop : tie.InvT-loop
+Inv-loop ma va mb vb plain unknown found₀ s₀ found s = Tried plain va vb unknown found s
+
+abbrev μ-loop : tie.MeasureT-loop
+μ-loop ma va mb vb plain unknown found₀ s₀ found s = s
+
+product-requires : tie.Need-product-requires Inv-loop μ-loop
+product-requires c κs = search needs
+
+loop-holds : tie.Need-loop-holds Inv-loop μ-loop
+loop-holds c =
+    let a = c .before .args in
+    tried-start (c .product .result) (a .va) (a .vb) _ (joined-below (a .ma) (a .mb) (c .before .fits .ma .fits) (c .before .fits .mb .fits))
+
+chosen-requires : tie.Need-chosen-requires Inv-loop μ-loop
+chosen-requires c κs = search needs
+
+sub-s : tie.Need-sub-s Inv-loop μ-loop
+sub-s c = omega arith
+
+loop-less : tie.Need-loop-less Inv-loop μ-loop
+loop-less c = let l = and-le-l (c .before .before .loop .s - 1) _ in lt-of-le-of-lt l (omega arith)
+
+loop-again : tie.Need-loop-again Inv-loop μ-loop
+loop-again c =
+    let s = c .before .before .before .before in
+    let a = s .args in
+    let l = c .before .before .loop in
+    tried-next (c .before .before .before .product .result) (a .va) (a .vb) _ (joined-below (a .ma) (a .mb) (s .fits .ma .fits) (s .fits .mb .fits))
+    (l .found) (l .s) _ (omega arith) (c .chosen .ensures) (l .inv)
+
+returns : tie.Need-returns Inv-loop μ-loop
+returns c =
+    let s = c .before .before .before in
+    let a = s .args in
+    let l = c .before .loop in
+    let z : l .s ≡ 0 = omega arith in
+    every-choice (a .ma) (a .va) (a .mb) (a .vb) (c .before .before .product .result) (l .found) (s .fits .ma .fits) (c .before .before .product .ensures)
+    (subst₂ (λ (x y : ℕ). Tried (c .before .before .product .result) (a .va) (a .vb) x (l .found) y) (joined-word (a .ma) (a .mb) (s .fits .ma .fits) (s .fits .mb .fits)) z (l .inv))
+
+pub by-every-choice-spec : {M : Type 1} → statement M
+by-every-choice-spec =
+    tie.close
+    (tie.spec
+    Inv-loop
+    μ-loop
+    product-requires
+    loop-holds
+    chosen-requires
+    sub-s
+    loop-less
+    loop-again
+    returns)

@@ -1,0 +1,3 @@
+-- The definitions of `columns`.
+pub mod Settled
+pub mod Choices

@@ -1,0 +1,33 @@
+// Every choice of the unknown bits of both operands, where they are few.
+ghost use mathlib.Core.Path.{_≡_};
+ghost use Rattle.columns.specs.Settled.{UnknownExactly};
+ghost use Rattle.columns.specs.Choices.{differenceAt};
+use crate::product;
+use crate::witnesses::differing;
+
+// The columns in which the choice s of unknown bits, those of the first operand in the low half, differs from the plain product.
+fn chosen(plain: u32, va: u32, vb: u32, s: u64) -> u32
+    ensures { λ r. ⌜ r ≡ differenceAt plain va vb s ⌝ }
+{
+    differing(
+        plain,
+        va | ((s % 4294967296) as u32),
+        vb | ((s / 4294967296) as u32),
+    )
+}
+
+// The unknown columns: those in which some choice differs from the plain product. The choices are the parts of the unknown bits, from all of
+// them down: taking 1 from a part and cutting to the unknown bits gives the next lower part.
+pub fn by_every_choice(ma: u32, va: u32, mb: u32, vb: u32) -> u32
+    ensures { λ r. ⌜ UnknownExactly ma va mb vb r ⌝ }
+{
+    let plain = product(va, vb);
+    let unknown = (ma as u64) | ((mb as u64) << 32);
+    let mut found: u32 = 0;
+    let mut s = unknown;
+    while s != 0 {
+        found = found | chosen(plain, va, vb, s);
+        s = (s - 1) & unknown;
+    }
+    found
+}

@@ -1,0 +1,43 @@
+// Columns of a product that a few plain products settle, so that only the others are worked out one by one: a column is unknown where two
+// covered products differ, and known where no unknown bit can change it (01, "Abstract result").
+ghost use mathlib.Core.Path.{_≡_};
+ghost use Prim.Native.Nat.{_-_, _*_, _%_, _^_, min};
+ghost use Rattle.columns.specs.Settled.{AllKnown};
+
+pub mod choices; // choices.rt: every choice of the unknown bits, where they are few
+mod reach; // reach.rt: the columns that no unknown bit reaches
+pub mod witnesses; // witnesses.rt: sixteen choices
+
+// a · b, exact.
+pub fn exact_product(a: u32, b: u32) -> u64
+    ensures { λ r. ⌜ r ≡ a * b ⌝ }
+{
+    (a as u64) * (b as u64)
+}
+
+// a · b modulo 2^32.
+pub fn product(a: u32, b: u32) -> u32
+    ensures { λ r. ⌜ r ≡ a * b % 2 ^ 32 ⌝ }
+{
+    (exact_product(a, b) % 4294967296) as u32
+}
+
+// The ones below column n: all 32 where n is more.
+fn ones_below(n: u32) -> u32
+    ensures { λ r. ⌜ r ≡ 2 ^ min n 32 - 1 ⌝ }
+{
+    if n >= 32 {
+        return u32::MAX;
+    }
+    (1u32 << n) - 1
+}
+
+// Columns that are known whatever the unknown bits are: those below every unknown bit's reach, and those above the bits in which the
+// least and the greatest exact product differ.
+pub fn known_columns(ma: u32, va: u32, mb: u32, vb: u32) -> u32
+    ensures { λ r. ⌜ AllKnown ma va mb vb r ⌝ }
+{
+    let low = ones_below(reach::first_reached(ma, va, mb, vb));
+    let high = ones_below(reach::end_reached(ma, va, mb, vb));
+    low | !high
+}
