@@ -10,4 +10,4 @@ pub mod Counts
 pub mod Reversed
 pub mod Listed
 pub mod Words
-pub mod Zeros
+pub mod LowestBit

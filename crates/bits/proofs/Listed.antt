@@ -1,13 +1,9 @@
--- The list of the values of a function at 0, 1, .., n - 1, to which a constant table computes. Assumes nothing.
+-- An entry of the list of a function's values, to which a constant table computes. Assumes nothing.
 use mathlib.Core.Path.{_≡_, refl}
-use mathlib.Core.List.{List, [], _∷_}
 use Prim.Native.Nat.{ℕ, zero, suc, _<_}
 use native.Mathlib.Nat.{le-of-suc-le-suc, not-suc-le-zero}
 use lib.ListN.{getD}
-
-abbrev pub listed : ℕ → (ℕ → ℕ) → List ℕ
-listed zero f = []
-listed (suc n) f = f 0 ∷ listed n (λ k. f (suc k))
+use Rattle.bits.specs.Reversed.{listed}
 
 pub getD-listed : (n : ℕ) (f : ℕ → ℕ) (k : ℕ) → k < n → getD (listed n f) k 0 ≡ f k
 getD-listed zero f k h = absurd (not-suc-le-zero h)

@@ -1,9 +1,9 @@
 -- The bits of a number in the other order, for every width. Assumes nothing.
 use mathlib.Core.Path.{_≡_, sym, ap, subst, _∙_}
-use Prim.Native.Nat.{ℕ, _+_, _-_, _*_, _/_, _%_, _^_, _<_}
+use Prim.Native.Nat.{ℕ, _+_, _-_, _*_, _/_, _%_, _^_, _≤_, _<_}
 use native.Mathlib.Decide.{decLt}
 use native.Mathlib.Omega.{arith}
-use lib.Pow.{pow-add}
+use lib.Pow.{pow-add, high}
 use lib.Arith.{digits-lt}
 use Rattle.bits.specs.Bit.{bit, isSet}
 use Rattle.bits.specs.Reversed.{reversed}
@@ -56,3 +56,11 @@ reversed-cat b a n = bit-ext (b + a) (reversed (b + a) n) joined (reversed-below
               let d : k - a + a ≡ k = omega arith in
               ap (bit n) e ∙ high (k - a) (omega arith) ∙ ap (bit joined) d
         ]
+
+-- a reversed word, shifted to the right, has the lowest bits reversed (document 002, equation 47)
+pub reversed-shr : (v w x : ℕ) → w ≤ v → reversed v x / 2 ^ (v - w) ≡ reversed w x
+reversed-shr v w x h =
+    let e : v ≡ w + (v - w) = omega arith in
+    ap (λ (n : ℕ). reversed n x / 2 ^ (v - w)) e
+    ∙ ap (λ (n : ℕ). n / 2 ^ (v - w)) (reversed-cat w (v - w) x)
+    ∙ high (reversed w x) (v - w) (reversed-below (v - w) (x / 2 ^ w))

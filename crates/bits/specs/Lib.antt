@@ -2,3 +2,4 @@
 pub mod Bit
 pub mod Below
 pub mod Reversed
+pub mod Four

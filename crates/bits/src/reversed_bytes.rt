@@ -1,10 +1,10 @@
 // The fixed table of 256 reversed bytes (01, "Products").
 ghost use mathlib.Core.Path.{_≡_};
 ghost use Prim.Native.Nat.{_<_};
-ghost use Rattle.bits.specs.Reversed.{reversed};
+ghost use Rattle.bits.specs.Reversed.{reversed, reversedBytes};
 
 // Entry n is the byte n with its bits in the other order.
-const REVERSED: [u8; 256] = [
+pub(crate) const REVERSED: [u8; 256] = [
     0,
     128,
     64,
@@ -263,9 +263,10 @@ const REVERSED: [u8; 256] = [
     255,
 ];
 
-pub(crate) fn reverse_byte(n: usize) -> u8
-    requires { ⌜ n < 256 ⌝ }
+// One entry of it. The table is lent, so that it stands in memory once for many readings.
+pub(crate) fn reverse_byte(table: &[u8; 256], n: usize) -> u8
+    requires { ⌜ (n < 256) × (now table ≡ reversedBytes) ⌝ }
     ensures { λ r. ⌜ r ≡ reversed 8 n ⌝ }
 {
-    REVERSED[n]
+    table[n]
 }

@@ -1,5 +1,5 @@
 -- The mask of a product: 1 where two covered products differ, 0 where all agree; its value is then the plain product's. Assumes nothing.
-use mathlib.Core.Path.{_≡_, sym, ap, _∙_}
+use mathlib.Core.Path.{_≡_, sym, subst, _∙_}
 use mathlib.Core.Logic.{_⊎_, inl, inr, _≢_}
 use mathlib.Core.List.{List, [], _∷_}
 use Prim.Native.Nat.{ℕ, _*_, _%_, _^_, _<_}
@@ -25,6 +25,15 @@ module _ (w ma va mb vb : ℕ) where
   told : ByBits w plain (row w ma va ∷ row w mb vb ∷ []) (productOf w ma va mb vb)
   unfolding resultOf plain
   told = best-by-bits w _ (row w ma va ∷ row w mb vb ∷ [])
+
+  pub product-formed : WellFormed (productOf w ma va mb vb)
+  product-formed = told .formed
+
+  pub product-width : productOf w ma va mb vb .width ≡ w
+  product-width = told .width-is
+
+  pub product-below : productOf w ma va mb vb .mask < 2 ^ w
+  product-below = subst (λ (n : ℕ). productOf w ma va mb vb .mask < 2 ^ n) product-width (product-formed .mask-below)
 
   module _ (k : ℕ) (h : k < w) where
     -- a bit of the result is that of the exact product

@@ -11,7 +11,7 @@ use lib.Count.{trailingZeros}
 use Rattle.bits.specs.Bit.{bit}
 use Rattle.bits.proofs.Bits.{bit-ext, bit-above, bit-or, bit-of-zero}
 use Rattle.bits.proofs.Shifts.{bit-mod, bit-same-low}
-use Rattle.bits.proofs.Zeros.{trailing-bit}
+use Rattle.bits.proofs.LowestBit.{trailing-bit}
 use Rattle.vectors.specs.Row.{row, WellFormed, Covers}
 use Rattle.columns.specs.Settled.{productOf, Formed, KnownBelow}
 use Rattle.columns.proofs.ProductMask.{product-steady}

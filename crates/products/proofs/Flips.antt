@@ -9,7 +9,7 @@ use native.Mathlib.Nat.{mul-le-mul-left, mul-one}
 use native.Mathlib.Omega.{arith}
 use Rattle.bits.specs.Bit.{bit}
 use Rattle.bits.proofs.Bits.{bit-lt, bit-cases}
-use Rattle.products.specs.Column.{sum, termsBelow, onePairs}
+use Rattle.products.specs.Column.{termsBelow, onePairs}
 use Rattle.products.specs.Factors.{lowRow}
 use Rattle.products.proofs.Sums.{sum-le, sum-add, sum-scale, sum-point}
 use Rattle.products.proofs.LowRows.{low-row-lt}
@@ -64,13 +64,13 @@ module _ (k a c b i : ℕ) (hi : i ≤ k) (agree : AgreeBut k i a c) where
   point-pairs =
       sum-point (λ j. pair k a b j) (λ j. pair k c b j) (suc k) i (omega arith) (λ j l n. ap (λ (x : ℕ). x * bit b (k - j)) (agree j (omega arith) n))
 
-  -- bit i from 0 to 1: the change is in [-2 ^ k, 2 ^ k)
+  -- bit i from 0 to 1: its row is added, so the change is in [-2 ^ k, 2 ^ k)
   module _ (off : bit a i ≡ 0) (on : bit c i ≡ 1) where
-    flip-terms : termsBelow k c b ≡ termsBelow k a b + lowRow k i b
+    pub flip-terms : termsBelow k c b ≡ termsBelow k a b + lowRow k i b
     unfolding lower
     flip-terms = omega (arith, point-terms, ap (λ (x : ℕ). x * lowRow k i b) off, ap (λ (x : ℕ). x * lowRow k i b) on)
 
-    flip-pairs : 2 ^ k * onePairs k c b ≡ 2 ^ k * onePairs k a b + 2 ^ k * bit b (k - i)
+    pub flip-pairs : 2 ^ k * onePairs k c b ≡ 2 ^ k * onePairs k a b + 2 ^ k * bit b (k - i)
     unfolding pair
     flip-pairs =
         let e : onePairs k c b ≡ onePairs k a b + bit b (k - i) =

@@ -14,15 +14,15 @@ use Rattle.products.proofs.Integers.{Minus, minus-pos, minus-add, minus
 pub minus-fits : (z : ℤ) (p q : ℕ) → Minus z p q → p < 2 ^ 63 → q < 2 ^ 63 → SFits w64 z
 minus-fits z p q m h l = record { sfits = minus-mag z p q (2 ^ 63) m h (omega arith) }
 
--- x and y are the bits of p and q
-module _ (x y p q : ℕ) (ex : x ≡ p) (ey : y ≡ q) (hp : p < 2 ^ 63) (hq : q < 2 ^ 63) where
-  held : toZ w64 x -ℤ toZ w64 y ≡ pos p -ℤ pos q
-  held = ap₂ (λ (a b : ℕ). toZ w64 a -ℤ toZ w64 b) ex ey ∙ ap₂ (λ (a b : ℤ). a -ℤ b) (toZ-pos w64 hp) (toZ-pos w64 hq)
+-- x and y are the bits of two numbers that are not negative
+module _ (x y : ℕ) (hx : x < 2 ^ 63) (hy : y < 2 ^ 63) where
+  held : toZ w64 x -ℤ toZ w64 y ≡ pos x -ℤ pos y
+  held = ap₂ (λ (a b : ℤ). a -ℤ b) (toZ-pos w64 hx) (toZ-pos w64 hy)
 
   pub sub-fits : SFits w64 (toZ w64 x -ℤ toZ w64 y)
-  sub-fits = subst (SFits w64) (sym held) (minus-fits (pos p -ℤ pos q) p q (minus-pos p q) hp hq)
+  sub-fits = subst (SFits w64) (sym held) (minus-fits (pos x -ℤ pos y) x y (minus-pos x y) hx hy)
 
-  pub sub-held : toZ w64 (ofZ w64 (toZ w64 x -ℤ toZ w64 y)) ≡ pos p -ℤ pos q
+  pub sub-held : toZ w64 (ofZ w64 (toZ w64 x -ℤ toZ w64 y)) ≡ pos x -ℤ pos y
   sub-held = toZ-ofZ sub-fits ∙ held
 
 -- s is the bits of p - q, and z is r - t
@@ -35,8 +35,8 @@ module _ (s : ℕ) (z : ℤ) (p q r t : ℕ) (m : Minus (toZ w64 s) p q) (n : Mi
   pub add-fits : SFits w64 (toZ w64 s +ℤ toZ w64 (ofZ w64 z))
   add-fits = minus-fits _ (p + r) (q + t) sum-minus hp hq
 
-  pub add-held : (x : ℕ) → x ≡ ofZ w64 (toZ w64 s +ℤ toZ w64 (ofZ w64 z)) → Minus (toZ w64 x) (p + r) (q + t)
-  add-held x e = subst (λ (y : ℤ). Minus y (p + r) (q + t)) (sym (ap (toZ w64) e ∙ toZ-ofZ add-fits)) sum-minus
+  pub add-held : Minus (toZ w64 (ofZ w64 (toZ w64 s +ℤ toZ w64 (ofZ w64 z)))) (p + r) (q + t)
+  add-held = subst (λ (y : ℤ). Minus y (p + r) (q + t)) (sym (toZ-ofZ add-fits)) sum-minus
 
 -- ---- equality and the lowest bit
 

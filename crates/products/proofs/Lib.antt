@@ -23,3 +23,4 @@ pub mod Sizes
 pub mod Turns
 pub mod Algorithm
 pub mod Planes
+pub mod Unsettled

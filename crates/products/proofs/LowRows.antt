@@ -32,10 +32,6 @@ row-lt k i m b e =
 
 -- ---- the same for `lowRow`
 
-pub low-row : (k i j b : ℕ) → i + j ≡ k → lowRow k i b ≡ 2 ^ i * (b % 2 ^ j)
-unfolding lowRow
-low-row k i j b e = let d : k - i ≡ j = omega arith in ap (λ (x : ℕ). 2 ^ i * (b % 2 ^ x)) d
-
 pub low-row-lt : (k i b : ℕ) → i < suc k → lowRow k i b < 2 ^ k
 unfolding lowRow
 low-row-lt k i b h = row-lt k i (k - i) b (omega arith)

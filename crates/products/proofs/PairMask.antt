@@ -1,19 +1,17 @@
--- The pair mask of algorithm 2 of document 002, line 13, and its lowest set bit. Assumes nothing.
+-- The pair mask of algorithm 2 of document 002, line 13. Assumes nothing.
 --   mask-doubly, doubly-mask   bit i is 1 exactly where pair i is unknown on both sides
---   lowest                     the count of trailing zeros is the place of the lowest set bit
 --   other-bit                  a number with bit i set is 2 ^ i, or has another bit set
-use mathlib.Core.Path.{_≡_, refl, sym, ap, _∙_}
+use mathlib.Core.Path.{_≡_, sym, ap, _∙_}
 use mathlib.Core.Logic.{_⊎_, inl, inr, _≢_}
-use Prim.Native.Nat.{ℕ, zero, suc, _+_, _-_, _/_, _%_, _^_, _<_, min}
-use native.Mathlib.Nat.{mod-lt, eq-or-lt-of-le, le-of-suc-le-suc}
+use Prim.Native.Nat.{ℕ, zero, suc, _+_, _-_, _^_, _<_, min}
+use native.Mathlib.Nat.{eq-or-lt-of-le, le-of-suc-le-suc}
 use native.Mathlib.Decide.{decLt, ℕ-discrete}
 use native.Mathlib.Omega.{arith}
 use lib.Pow.{pow-lt}
 use lib.Bits.{bitAnd}
-use lib.Count.{trailingZeros, under}
 use Rattle.bits.specs.Bit.{bit}
 use Rattle.bits.specs.Reversed.{reversed}
-use Rattle.bits.proofs.Bits.{bit-lt, bit-zero, bit-suc, bit-above, bit-cases, bit-ext, bit-and, bit-of-zero, half-below}
+use Rattle.bits.proofs.Bits.{bit-lt, bit-above, bit-cases, bit-ext, bit-and, bit-of-zero}
 use Rattle.bits.proofs.Constants.{bit-pow, bit-pow-other}
 use Rattle.bits.proofs.Reversed.{reversed-below}
 use Rattle.products.specs.Rule.{DoublyUnknown}
@@ -42,18 +40,6 @@ module _ (k ma mb : ℕ) where
 
   pub mask-only : (i : ℕ) → bitAnd ma (reversed (k + 1) mb) ≡ 2 ^ i → (n : ℕ) → n ≢ i → ¬ DoublyUnknown k ma mb n
   mask-only i e n f d = let z = sym (ap (λ (x : ℕ). bit x n) e ∙ bit-pow-other i n f) ∙ doubly-mask n d in omega arith
-
--- ---- the lowest set bit, for every width
-
-by-digit : (k n d t : ℕ) → n % 2 ≡ d → d < 2 → (d ≡ 0 → (t < k) × (bit (n / 2) t ≡ 1)) → (under d t < suc k) × (bit n (under d t) ≡ 1)
-by-digit k n zero t e h f = let g = f refl in (omega (arith, g .0), bit-suc n t ∙ g .1)
-by-digit k n (suc d) t e h f = (omega arith, bit-zero n ∙ e ∙ omega arith)
-
-pub lowest : (k n : ℕ) → n ≢ 0 → n < 2 ^ k → (trailingZeros k n < k) × (bit n (trailingZeros k n) ≡ 1)
-unfolding trailingZeros
-lowest zero n h l = absurd (h (omega arith))
-lowest (suc k) n h l =
-    by-digit k n (n % 2) (trailingZeros k (n / 2)) refl (mod-lt n (omega arith)) (λ e. lowest k (n / 2) (λ z. h (omega arith)) (half-below k n l))
 
 -- ---- another set bit
 

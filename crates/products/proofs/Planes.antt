@@ -1,21 +1,23 @@
--- A vector put together from its bits, the lowest first. Assumes nothing.
-use mathlib.Core.Path.{_≡_, sym, ap, ap₂, _∙_}
+-- The two planes of a product. Assumes nothing.
+--   mask-bit-of   an answer's mask bit is the vector's
+--   planes-of     the planes from the unknown columns and the values' product, cut to the width
+use mathlib.Core.Path.{_≡_, sym, ap, subst, _∙_}
 use mathlib.Core.Logic.{inl, inr}
-use Prim.Native.Nat.{ℕ, _+_, _*_, _%_, _^_, _<_}
-use native.Mathlib.Nat.{mod-lt, mod-eq-of-lt}
-use native.Mathlib.Numerals.{add-one}
-use lib.Bits.{bitOr, or-shifted-r}
-use lib.Pow.{pow-pos}
+use Prim.Native.Nat.{ℕ, _-_, _*_, _%_, _^_, _<_, min}
+use native.Mathlib.Nat.{lt-of-le-of-lt, lt-of-lt-of-le}
+use native.Mathlib.Omega.{arith}
+use lib.Pow.{pow-mono}
+use lib.Bits.{bitAnd, and-le-r, and-mask, mask-lt}
 use Rattle.bits.specs.Bit.{bit}
-use Rattle.bits.proofs.Bits.{bit-lt, bit-cases}
-use Rattle.bits.proofs.Shifts.{mod-pow-suc}
+use Rattle.bits.proofs.Bits.{bit-lt, bit-cases, bit-and, bit-ext}
+use Rattle.bits.proofs.Constants.{bit-complement, bit-ones}
+use Rattle.bits.proofs.Shifts.{bit-mod}
 use Rattle.vectors.specs.declared.OutputBit.{OutputBit}
-use Rattle.vectors.specs.Row.{Row, row, WellFormed}
-use Rattle.products.specs.OutputBits.{outputBit, maskBit, valueBit}
+use Rattle.vectors.specs.Row.{Row, row}
+use Rattle.columns.specs.Settled.{productOf, Formed}
+use Rattle.columns.proofs.ProductMask.{product-formed, product-width, product-below, product-value}
+use Rattle.products.specs.OutputBits.{outputBit, maskBit}
 use Rattle.products.proofs.Outputs.{output-unknown, output-known}
-use Rattle.products.proofs.Words.{shifted-bit}
-
--- ---- an answer's bits are the vector's
 
 pub mask-bit-of : (r : Row) (k : ℕ) (b : OutputBit) (u : ℕ) → b ≡ outputBit r k → u ≡ maskBit b → u ≡ bit (r .mask) k
 mask-bit-of r k b u eb eu =
@@ -29,34 +31,41 @@ mask-bit-of r k b u eb eu =
       ]
     ]
 
-pub value-bit-of : (r : Row) (k : ℕ) (b : OutputBit) (u : ℕ) → WellFormed r → b ≡ outputBit r k → u ≡ valueBit b → u ≡ bit (r .value) k
-value-bit-of r k b u F eb eu =
-    eu
-    ∙ ap valueBit eb
-    ∙ elim (bit-cases (r .mask) k) [
-      | inr e ↦ ap valueBit (output-unknown r k e) ∙ sym (F .apart k e)
-      | inl e ↦ elim (bit-cases (r .value) k) [
-        | inl f ↦ ap valueBit (output-known r k 0 e f) ∙ sym f
-        | inr f ↦ ap valueBit (output-known r k 1 e f) ∙ sym f
+module _ (w ma va mb vb r p : ℕ) (F : Formed w ma va mb vb) (e : p ≡ va * vb % 2 ^ 32)
+    (h : (k : ℕ) → k < w → bit r k ≡ bit (productOf w ma va mb vb .mask) k) where
+  abbrev q : Row
+  q = productOf w ma va mb vb
+
+  abbrev m : ℕ
+  m = bitAnd r (2 ^ w - 1)
+
+  masks : m ≡ q .mask
+  masks = bit-ext w m (q .mask) (mask-lt r w) (product-below w ma va mb vb) (λ k l. ap (λ (x : ℕ). bit x k) (and-mask r w) ∙ bit-mod r w k l ∙ h k l)
+
+  value-bit : (k : ℕ) → k < w → bit (bitAnd p (bitAnd (2 ^ 32 - 1 - m) (2 ^ w - 1))) k ≡ bit (q .value) k
+  value-bit k l =
+      let o = F .most in
+      let a = bit-and p (bitAnd (2 ^ 32 - 1 - m) (2 ^ w - 1)) k in
+      let b = bit-and (2 ^ 32 - 1 - m) (2 ^ w - 1) k in
+      let c = bit-complement 32 m k (lt-of-lt-of-le (mask-lt r w) (pow-mono o)) (omega arith) in
+      let d = bit-ones w k l in
+      let i = ap (λ (x : ℕ). bit x k) masks in
+      let j = bit-lt p k in
+      elim (bit-cases (q .mask) k) [
+        | inr y ↦ let z = product-formed w ma va mb vb .apart k y in omega arith
+        | inl y ↦
+            let z = product-value w ma va mb vb k l (F .first) (F .second) y in
+            let x = ap (λ (n : ℕ). bit n k) e ∙ bit-mod (va * vb) 32 k (omega arith) in
+            omega arith
       ]
-    ]
 
--- ---- a plane, bit by bit, in a word of v bits
+  values : bitAnd p (bitAnd (2 ^ 32 - 1 - m) (2 ^ w - 1)) ≡ q .value
+  values =
+      bit-ext w (bitAnd p (bitAnd (2 ^ 32 - 1 - m) (2 ^ w - 1))) (q .value)
+      (lt-of-le-of-lt (and-le-r p (bitAnd (2 ^ 32 - 1 - m) (2 ^ w - 1))) (mask-lt (2 ^ 32 - 1 - m) w))
+      (subst (λ (n : ℕ). q .value < 2 ^ n) (product-width w ma va mb vb) (product-formed w ma va mb vb .value-below)) value-bit
 
-pub plane-next : (v n k m u : ℕ) → k < v → m ≡ n % 2 ^ k → u ≡ bit n k → bitOr m (u * 2 ^ k % 2 ^ v) ≡ n % 2 ^ (k + 1)
-plane-next v n k m u l em eu =
-    ap₂ (λ (x y : ℕ). bitOr x (y * 2 ^ k % 2 ^ v)) em eu
-    ∙ ap (bitOr (n % 2 ^ k)) (shifted-bit v (bit n k) k (bit-lt n k) l)
-    ∙ or-shifted-r (bit n k) k (n % 2 ^ k) (mod-lt n (pow-pos k))
-    ∙ sym (mod-pow-suc n k)
-    ∙ ap (λ (x : ℕ). n % 2 ^ x) (sym (add-one k))
-
--- all bits below the width
-pub planes-end : (w : ℕ) (r : Row) (k m n : ℕ) → r .width ≡ w → WellFormed r → k ≡ w → m ≡ r .mask % 2 ^ k → n ≡ r .value % 2 ^ k → row w m n ≡ r
-planes-end w r k m n ew F e em en = λ ι. record { width = sym ew ι; mask = masks ι; value = values ι }
-  where
-    masks : m ≡ r .mask
-    masks = em ∙ ap (λ (x : ℕ). r .mask % 2 ^ x) (e ∙ sym ew) ∙ mod-eq-of-lt (F .mask-below)
-
-    values : n ≡ r .value
-    values = en ∙ ap (λ (x : ℕ). r .value % 2 ^ x) (e ∙ sym ew) ∙ mod-eq-of-lt (F .value-below)
+  pub planes-of : (ones : ℕ) → ones ≡ 2 ^ w - 1 → row w (bitAnd r ones) (bitAnd p (bitAnd (2 ^ 32 - 1 - bitAnd r ones) ones)) ≡ q
+  planes-of ones f =
+      ap (λ (x : ℕ). row w (bitAnd r x) (bitAnd p (bitAnd (2 ^ 32 - 1 - bitAnd r x) x))) f
+      ∙ (λ ι. record { width = sym (product-width w ma va mb vb) ι; mask = masks ι; value = values ι })

@@ -5,6 +5,7 @@ ghost use lib.IntN.{pos, _-ℤ_};
 ghost use Rattle.bits.specs.Bit.{bit};
 ghost use Rattle.products.specs.Column.{columnSum, columnFloor, bitOfFloors};
 ghost use Rattle.products.specs.Factors.{lowRow};
+use bits::width_mask;
 use vectors::OutputBit;
 
 // What bit i of one factor adds below column k, for the other factor b.
@@ -15,28 +16,27 @@ pub fn low_row(b: u32, i: u32, k: u32) -> u32
     (b & ((1u32 << (k - i)) - 1)) << i
 }
 
-// What it adds to the column sum (document 002, equation 48).
+// What it adds to the column sum (document 002, equation 48): b shifted to the left by i, its lowest k + 1 bits read as a signed number.
+// With the top bit turned round the word is 2^k more than that number.
 fn row(b: u32, i: u32, k: u32) -> i64
     requires { ⌜ (i ≤ k) × (k < 32) ⌝ }
     ensures { λ r. ⌜ r ≡ pos (lowRow k i b) -ℤ pos (2 ^ k * bit b (k - i)) ⌝ }
 {
-    let below = low_row(b, i, k) as i64;
-    let pair = (((b >> (k - i)) & 1) << k) as i64;
-    below - pair
+    let half = 1u32 << k;
+    let raised = ((b << i) & width_mask(k + 1)) ^ half;
+    raised as i64 - half as i64
 }
 
-// The sum of the rows whose bit of the first factor is 1.
+// The sum of the rows whose bit of the first factor is 1: each turn adds the row of the lowest set bit that is left, and clears the bit.
 fn column_sum(a: u32, b: u32, k: u32) -> i64
     requires { ⌜ k < 32 ⌝ }
     ensures { λ r. ⌜ r ≡ columnSum k a b ⌝ }
 {
     let mut total: i64 = 0;
-    let mut i: u32 = 0;
-    while i <= k {
-        if (a >> i) & 1 == 1 {
-            total = total + row(b, i, k);
-        }
-        i += 1;
+    let mut rest = a & width_mask(k + 1);
+    while rest != 0 {
+        total = total + row(b, u32::trailing_zeros(rest), k);
+        rest = rest & (rest - 1);
     }
     total
 }

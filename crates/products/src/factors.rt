@@ -1,12 +1,13 @@
 // The factors at which the column sum is least and greatest (document 002, section 7.2).
 ghost use mathlib.Core.Path.{_≡_};
-ghost use Prim.Native.Nat.{_+_, _-_, _≤_, _<_};
+ghost use Prim.Native.Nat.{ℕ, _+_, _-_, _≤_, _<_};
 ghost use Rattle.bits.specs.Reversed.{reversed};
+ghost use Rattle.bits.specs.Four.{reversedWords};
 ghost use Rattle.products.specs.Factors.{andNot, leastBit, greatestBit, extremesOf, withPair, settledBit};
 use crate::column_sums::bit_of_floors;
 use crate::column_sums::column_floor;
 use crate::column_sums::low_row;
-use bits::reverse;
+use bits::FourWords;
 use vectors::OutputBit;
 
 // One factor for each of the two vectors.
@@ -21,12 +22,11 @@ pub struct Extremes {
     pub greatest: Factors,
 }
 
-// The bits that meet those of the other factor in column k: bit i is bit k - i of x.
-pub fn partners(x: u32, k: u32) -> u32
+// The bits that meet those of the other factor in column k: bit i is bit k - i of x, whose bits `word` has in the other order.
+pub fn partners(word: u32, k: u32) -> u32
     requires { ⌜ k < 32 ⌝ }
-    ensures { λ r. ⌜ r ≡ reversed (k + 1) x ⌝ }
+    ensures { λ r. ⌜ ((x : ℕ) → word ≡ reversed 32 x → r ≡ reversed (k + 1) x) ⌝ }
 {
-    let word = reverse(x);
     word >> (31 - k)
 }
 
@@ -38,14 +38,14 @@ fn and_not(x: u32, y: u32) -> u32
 }
 
 // An unknown bit whose partner is known takes the partner's bit in the least sum, the other one in the greatest.
-pub fn extreme_factors(ma: u32, va: u32, mb: u32, vb: u32, k: u32) -> Extremes
-    requires { ⌜ k < 32 ⌝ }
+pub fn extreme_factors(ma: u32, va: u32, mb: u32, vb: u32, reverses: FourWords, k: u32) -> Extremes
+    requires { ⌜ (k < 32) × (reverses ≡ reversedWords ma va mb vb) ⌝ }
     ensures { λ r. ⌜ r ≡ extremesOf k ma va mb vb ⌝ }
 {
-    let a_value = partners(va, k);
-    let b_value = partners(vb, k);
-    let a_single = and_not(ma, partners(mb, k));
-    let b_single = and_not(mb, partners(ma, k));
+    let a_value = partners(reverses.b, k);
+    let b_value = partners(reverses.d, k);
+    let a_single = and_not(ma, partners(reverses.c, k));
+    let b_single = and_not(mb, partners(reverses.a, k));
     let least = Factors {
         a: va | (a_single & b_value),
         b: vb | (b_single & a_value),

@@ -1,12 +1,23 @@
 // One bit of the product of two vectors, and the product's vector (01, "Products"; document 002, section 7, algorithm 2).
 ghost use mathlib.Core.Path.{_≡_};
 ghost use mathlib.Core.List.{[], _∷_};
-ghost use Prim.Native.Nat.{ℕ, _≤_, _<_};
+ghost use Prim.Native.Nat.{ℕ, _*_, _≤_, _<_, _^_};
+ghost use lib.Bits.{bitAnd};
+ghost use Rattle.bits.specs.Bit.{bit};
+ghost use Rattle.bits.specs.Four.{reversedWords};
 ghost use Rattle.vectors.specs.Row.{row, WellFormed};
 ghost use Rattle.operations.specs.Arithmetic.{opMul};
 ghost use Rattle.operations.specs.Result.{resultOf, Ready};
-ghost use Rattle.products.specs.OutputBits.{outputBit, maskBit, valueBit};
-ghost use Rattle.products.specs.Granted.{Granted};
+ghost use Rattle.columns.specs.Settled.{productOf, Formed, UnknownExactly};
+ghost use Rattle.products.specs.OutputBits.{outputBit, maskBit};
+ghost use Rattle.products.specs.Granted.{Granted, Open};
+use bits::FourWords;
+use bits::reverse_words;
+use bits::width_mask;
+use columns::choices::by_every_choice;
+use columns::known_columns;
+use columns::product;
+use columns::witnesses::unknown_columns;
 use factors::extreme_factors;
 use factors::partners;
 use factors::settle;
@@ -17,24 +28,32 @@ use vectors::Vector;
 mod column_sums; // column_sums.rt: column sums, held as i64
 mod factors; // factors.rt: the factors at which the column sum is least and greatest
 
-// Bit k of the product. No width is asked for: the answer is right at every width above k at which the vectors are well formed.
-// Two pairs of column k unknown on both sides make the bit unknown; a lone one has its bits set first.
-pub fn product_bit(ma: u32, va: u32, mb: u32, vb: u32, k: u32) -> OutputBit
-    requires { ⌜ Granted ma va mb vb k ⌝ }
-    ensures { λ r. ⌜ ((w : ℕ) → k < w → WellFormed (row w ma va) → WellFormed (row w mb vb) → r ≡ outputBit (resultOf opMul w 0 (row w ma va ∷ row w mb vb ∷ [])) k) ⌝ }
+// Bit k of the product, with the operands' reversed words. Two pairs of column k unknown on both sides make the bit unknown; a lone one has its
+// bits set first.
+fn column_bit(ma: u32, va: u32, mb: u32, vb: u32, reverses: FourWords, k: u32) -> OutputBit
+    requires { ⌜ Granted ma va mb vb k × (reverses ≡ reversedWords ma va mb vb) ⌝ }
+    ensures { λ r. ⌜ ((w : ℕ) → k < w → WellFormed (row w ma va) → WellFormed (row w mb vb) → r ≡ outputBit (productOf w ma va mb vb) k) ⌝ }
 {
-    let pairs = ma & partners(mb, k);
+    let pairs = ma & partners(reverses.c, k);
     if pairs == 0 {
-        return settle(extreme_factors(ma, va, mb, vb, k), k);
+        return settle(extreme_factors(ma, va, mb, vb, reverses, k), k);
     }
     let i = u32::trailing_zeros(pairs);
     let lone = 1u32 << i;
     if pairs != lone {
         return OutputBit::Unknown;
     }
-    let x = extreme_factors(ma, va, mb, vb, k);
+    let x = extreme_factors(ma, va, mb, vb, reverses, k);
     let y = with_pair(x, i, k);
     settle(y, k)
+}
+
+// Bit k of the product. No width is asked for: the answer is right at every width above k at which the vectors are well formed.
+pub fn product_bit(ma: u32, va: u32, mb: u32, vb: u32, k: u32) -> OutputBit
+    requires { ⌜ Granted ma va mb vb k ⌝ }
+    ensures { λ r. ⌜ ((w : ℕ) → k < w → WellFormed (row w ma va) → WellFormed (row w mb vb) → r ≡ outputBit (resultOf opMul w 0 (row w ma va ∷ row w mb vb ∷ [])) k) ⌝ }
+{
+    column_bit(ma, va, mb, vb, reverse_words(ma, va, mb, vb), k)
 }
 
 fn mask_bit(b: OutputBit) -> u32
@@ -47,29 +66,56 @@ fn mask_bit(b: OutputBit) -> u32
     }
 }
 
-fn value_bit(b: OutputBit) -> u32
-    ensures { λ r. ⌜ r ≡ valueBit b ⌝ }
+// Column k alone where it is unknown, else nothing.
+fn unknown_column(ma: u32, va: u32, mb: u32, vb: u32, reverses: FourWords, k: u32) -> u32
+    requires { ⌜ Granted ma va mb vb k × (reverses ≡ reversedWords ma va mb vb) ⌝ }
+    ensures { λ r. ⌜ ((w : ℕ) → k < w → Formed w ma va mb vb → r ≡ bit (productOf w ma va mb vb .mask) k * 2 ^ k) ⌝ }
 {
-    match b {
-        OutputBit::Zero => 0,
-        OutputBit::One => 1,
-        OutputBit::Unknown => 0,
-    }
+    mask_bit(column_bit(ma, va, mb, vb, reverses, k)) << k
 }
 
-// The vector of all product bits, the lowest first.
+// Of the columns in `unsettled` those that are unknown, each worked out by itself.
+fn unknown_among(unsettled: u32, ma: u32, va: u32, mb: u32, vb: u32) -> u32
+    requires { ⌜ Open ma va mb vb unsettled ⌝ }
+    ensures { λ r. ⌜ ((w : ℕ) → Formed w ma va mb vb → unsettled < 2 ^ w → r ≡ bitAnd unsettled (productOf w ma va mb vb .mask)) ⌝ }
+{
+    let reverses = reverse_words(ma, va, mb, vb);
+    let mut found: u32 = 0;
+    let mut rest = unsettled;
+    while rest != 0 {
+        let k = u32::trailing_zeros(rest);
+        found = found | unknown_column(ma, va, mb, vb, reverses, k);
+        rest = rest & (rest - 1);
+    }
+    found
+}
+
+// The columns below the width that are unknown. Few unknown bits are tried in every choice; else the columns that plain products do not settle
+// are worked out.
+fn unknown_below(w: u32, ma: u32, va: u32, mb: u32, vb: u32) -> u32
+    requires { ⌜ (1 ≤ w) × Formed w ma va mb vb ⌝ }
+    ensures { λ r. ⌜ ((k : ℕ) → k < w → bit r k ≡ bit (productOf w ma va mb vb .mask) k) ⌝ }
+{
+    if ma | mb == 0 {
+        return 0;
+    }
+    if u32::count_ones(ma) + u32::count_ones(mb) <= 6 {
+        return by_every_choice(ma, va, mb, vb);
+    }
+    let seen = unknown_columns(ma, va, mb, vb);
+    let unsettled = !(seen | known_columns(ma, va, mb, vb)) & width_mask(w);
+    seen | unknown_among(unsettled, ma, va, mb, vb)
+}
+
+// The product's vector: where no two choices disagree, the bit is that of the values' product.
 pub fn mul(w: u32, ma: u32, va: u32, mb: u32, vb: u32) -> Vector
     requires { ⌜ (w ≤ 32) × Ready opMul w 0 (row w ma va ∷ row w mb vb ∷ []) ⌝ }
     ensures { λ r. ⌜ row w (r .mask) (r .value) ≡ resultOf opMul w 0 (row w ma va ∷ row w mb vb ∷ []) ⌝ }
 {
-    let mut mask: u32 = 0;
-    let mut value: u32 = 0;
-    let mut k: u32 = 0;
-    while k < w {
-        let b = product_bit(ma, va, mb, vb, k);
-        mask = mask | (mask_bit(b) << k);
-        value = value | (value_bit(b) << k);
-        k += 1;
+    let ones = width_mask(w);
+    let mask = unknown_below(w, ma, va, mb, vb) & ones;
+    Vector {
+        mask: mask,
+        value: product(va, vb) & (!mask & ones),
     }
-    Vector { mask, value }
 }

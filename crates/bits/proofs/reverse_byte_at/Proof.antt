@@ -8,6 +8,7 @@ use Rattle.bits.specs.Reversed.{reversed}
 use Rattle.bits.proofs.Reversed.{reversed-mod, reversed-below}
 use Rattle.bits.proofs.reverse_byte_at.Statement.{statement}
 use Rattle.bits.proofs.reverse_byte_at.Tie as tie
+use Rattle.bits.proofs.reversed_bytes.reverse_byte.Reads as reverse-byte-reads
 
 shr-reverse-byte : tie.Need-shr-reverse-byte
 shr-reverse-byte c = search needs
@@ -16,7 +17,7 @@ cast-reverse-byte : tie.Need-cast-reverse-byte
 cast-reverse-byte c = omega (arith, and-le-r (c .args .x / 2 ^ c .args .k) 255)
 
 reverse-byte-requires : tie.Need-reverse-byte-requires
-reverse-byte-requires c κs = omega (arith, and-le-r (c .args .x / 2 ^ c .args .k) 255)
+reverse-byte-requires c κs = (omega (arith, and-le-r (c .args .x / 2 ^ c .args .k) 255), c .pre .1)
 
 cast-result : tie.Need-cast-result
 cast-result c = search needs

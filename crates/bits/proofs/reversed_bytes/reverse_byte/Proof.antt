@@ -1,17 +1,20 @@
--- `bits::reversed_bytes::reverse_byte` meets its contract: the table computes to the list of the 256 reversed bytes. Assumes nothing.
+-- `bits::reversed_bytes::reverse_byte` meets its contract. Assumes nothing.
 use borrow.Author.Needs.{needs}
-use Rattle.bits.specs.Bit.{bit, isSet, number}
-use Rattle.bits.specs.Reversed.{reversed}
+use mathlib.Core.Path.{ap, _∙_}
+use mathlib.Core.List.{List}
+use Prim.Native.Nat.{ℕ}
+use lib.ListN.{getD}
+use Rattle.bits.specs.Reversed.{reversed, reversedBytes}
 use Rattle.bits.proofs.Listed.{getD-listed}
 use Rattle.bits.proofs.reversed_bytes.reverse_byte.Statement.{statement}
 use Rattle.bits.proofs.reversed_bytes.reverse_byte.Tie as tie
 
-array-read-result : tie.Need-array-read-result
-array-read-result c = search needs
+element-copy-out-result : tie.Need-element-copy-out-result
+element-copy-out-result c = search needs
 
 returns : tie.Need-returns
-unfolding reversed number isSet bit
-returns c = getD-listed 256 (reversed 8) (c .args .n) (c .pre)
+unfolding reversedBytes
+returns c = let s = c .before in ap (λ (t : List ℕ). getD t (s .args .n) 0) (s .pre .1) ∙ getD-listed 256 (reversed 8) (s .args .n) (s .pre .0)
 
 pub reverse-byte-spec : {M : Type 1} → statement M
-reverse-byte-spec = tie.close (tie.spec array-read-result returns)
+reverse-byte-spec = tie.close (tie.spec element-copy-out-result returns)

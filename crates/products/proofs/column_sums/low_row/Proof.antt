@@ -3,7 +3,8 @@ use Prim.Native.Nat.{_-_}
 use native.Mathlib.Omega.{arith}
 use lib.Pow.{pow-pos}
 use borrow.Author.Needs.{needs}
-use Rattle.products.proofs.Words.{shifted-one, low-row-word}
+use Rattle.bits.proofs.Words.{shifted-one}
+use Rattle.products.proofs.Words.{low-row-word}
 use Rattle.products.proofs.column_sums.low_row.Statement.{statement}
 use Rattle.products.proofs.column_sums.low_row.Tie as tie
 

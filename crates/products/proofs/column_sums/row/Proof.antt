@@ -1,48 +1,81 @@
--- `row` meets its contract: both parts are at most 2 ^ 31. Assumes nothing.
-use Prim.Native.Nat.{_-_, _*_, _^_}
+-- `row` meets its contract: the word is 2 ^ k more than the row. Assumes nothing.
+use mathlib.Core.Path.{_≡_, ap, ap₂, _∙_}
+use Prim.Native.Nat.{ℕ, _+_, _-_, _*_, _%_, _^_, _<_}
+use native.Mathlib.Nat.{mul-add, mul-one, mod-lt, lt-of-le-of-lt}
 use native.Mathlib.Omega.{arith}
+use lib.Bits.{bitAnd, bitXor, xor-lt, and-le-l}
+use lib.IntN.{pos, _-ℤ_}
+use lib.Pow.{pow-pos}
 use borrow.Author.Needs.{needs}
 use Rattle.bits.specs.Bit.{bit}
+use Rattle.bits.proofs.Bits.{bit-lt}
 use Rattle.products.specs.Factors.{lowRow}
-use Rattle.products.proofs.Words.{pair-word}
-use Rattle.products.proofs.Sizes.{row-size, pair-size}
+use Rattle.products.proofs.Integers.{minus-pos, minus-unique}
+use Rattle.bits.proofs.Words.{shifted-one}
+use Rattle.products.proofs.Words.{raised-word}
 use Rattle.products.proofs.Held.{sub-fits, sub-held}
 use Rattle.products.proofs.column_sums.row.Statement.{statement}
 use Rattle.products.proofs.column_sums.row.Tie as tie
 
-low-row-requires : tie.Need-low-row-requires
-low-row-requires c κs = search needs
+-- the two words, after `width_mask`
+abbrev half : tie.After-width-mask → ℕ
+half c = 1 * 2 ^ c .before .args .k % 2 ^ 32
 
-cast-below : tie.Need-cast-below
-cast-below c = search needs
+abbrev word : tie.After-width-mask → ℕ
+word c = bitXor (bitAnd (c .before .args .b * 2 ^ c .before .args .i % 2 ^ 32) (c .width-mask .result)) (half c)
 
-sub-pair : tie.Need-sub-pair
-sub-pair c = search needs
+half-lt : (c : tie.After-width-mask) → half c < 2 ^ 32
+half-lt c = mod-lt (1 * 2 ^ c .before .args .k) (pow-pos 32)
 
-shr-pair : tie.Need-shr-pair
-shr-pair c = search needs
+word-lt : (c : tie.After-width-mask) → word c < 2 ^ 32
+word-lt c = xor-lt 32 _ (half c) (lt-of-le-of-lt (and-le-l (c .before .args .b * 2 ^ c .before .args .i % 2 ^ 32) (c .width-mask .result)) (mod-lt _ (pow-pos 32))) (half-lt c)
 
-shl-pair : tie.Need-shl-pair
-shl-pair c = search needs
+-- 2 ^ k is taken away
+lowered : (k l s : ℕ) → s < 2 → pos (l + 2 ^ k * (1 - s)) -ℤ pos (2 ^ k) ≡ pos l -ℤ pos (2 ^ k * s)
+lowered k l s h =
+    let e : 1 - s + s ≡ 1 = omega arith in
+    minus-unique _ _ _ _ _ _ (minus-pos (l + 2 ^ k * (1 - s)) (2 ^ k)) (minus-pos l (2 ^ k * s))
+    (omega (arith, mul-add (2 ^ k) (1 - s) s, ap (λ (x : ℕ). 2 ^ k * x) e, mul-one (2 ^ k)))
 
-cast-pair : tie.Need-cast-pair
-cast-pair c = search needs
+shl-half : tie.Need-shl-half
+shl-half c = search needs
+
+shl-raised : tie.Need-shl-raised
+shl-raised c = search needs
+
+add-width-mask : tie.Need-add-width-mask
+add-width-mask c = search needs
+
+width-mask-requires : tie.Need-width-mask-requires
+width-mask-requires c κs = search needs
+
+cast-result : tie.Need-cast-result
+cast-result c = record { sfits = omega (arith, word-lt c) }
+
+cast-result-2 : tie.Need-cast-result-2
+cast-result-2 c = search needs
 
 sub-result : tie.Need-sub-result
-sub-result c =
-    let a = c .before .args in
-    let h = c .before .pre in
-    sub-fits (c .low-row .result) _ (lowRow (a .k) (a .i) (a .b)) (2 ^ a .k * bit (a .b) (a .k - a .i)) (c .low-row .ensures)
-    (pair-word 32 (a .k) (a .k - a .i) (a .b) (h .1)) (omega (arith, row-size (a .k) (a .i) (a .b) (h .0) (h .1))) (omega (arith, pair-size (a .k) (a .k - a .i) (a .b) (h .1)))
+sub-result c = sub-fits (word c) (half c) (omega (arith, word-lt c)) (omega (arith, half-lt c))
 
 returns : tie.Need-returns
 returns c =
     let a = c .before .args in
     let h = c .before .pre in
-    sub-held (c .low-row .result) _ (lowRow (a .k) (a .i) (a .b)) (2 ^ a .k * bit (a .b) (a .k - a .i)) (c .low-row .ensures)
-    (pair-word 32 (a .k) (a .k - a .i) (a .b) (h .1)) (omega (arith, row-size (a .k) (a .i) (a .b) (h .0) (h .1))) (omega (arith, pair-size (a .k) (a .k - a .i) (a .b) (h .1)))
+    let e = shifted-one 32 (a .k) (h .1) in
+    sub-held (word c) (half c) (omega (arith, word-lt c)) (omega (arith, half-lt c))
+    ∙ ap₂ (λ (x y : ℕ). pos x -ℤ pos y) (raised-word 32 (a .k) (a .i) (a .b) _ _ (h .0) (h .1) (c .width-mask .ensures) e) e
+    ∙ lowered (a .k) (lowRow (a .k) (a .i) (a .b)) (bit (a .b) (a .k - a .i)) (bit-lt (a .b) (a .k - a .i))
 
 pub row-spec : {M : Type 1} → statement M
 row-spec =
     tie.close
-    (tie.spec low-row-requires cast-below sub-pair shr-pair shl-pair cast-pair sub-result returns)
+    (tie.spec
+    shl-half
+    shl-raised
+    add-width-mask
+    width-mask-requires
+    cast-result
+    cast-result-2
+    sub-result
+    returns)

@@ -1,10 +1,13 @@
 -- `extreme_factors` meets its contract. Assumes nothing.
+use borrow.Author.Needs.{needs}
 use mathlib.Core.Path.{ap, ap₂, _∙_}
 use lib.Bits.{bitAnd, bitOr}
-use borrow.Author.Needs.{needs}
+use Rattle.bits.specs.declared.FourWords.{FourWords}
 use Rattle.products.specs.Factors.{andNot, leastFactor, greatestFactor, extremesOf}
 use Rattle.products.proofs.factors.extreme_factors.Statement.{statement}
 use Rattle.products.proofs.factors.extreme_factors.Tie as tie
+use Rattle.products.proofs.factors.and_not.Reads as and-not-reads
+use Rattle.products.proofs.factors.partners.Reads as partners-reads
 
 partners-requires : tie.Need-partners-requires
 partners-requires c κs = search needs
@@ -33,11 +36,15 @@ and-not-requires-4 c κs = search needs
 returns : tie.Need-returns
 unfolding extremesOf leastFactor greatestFactor
 returns c =
-    let a = c .before .before .before .before .before .before .before .before .args in
-    let va = c .before .before .before .before .before .before .before .partners .ensures in
-    let vb = c .before .before .before .before .before .before .partners2 .ensures in
-    let sa = c .before .before .before .before .and-not .ensures ∙ ap (andNot (a .ma)) (c .before .before .before .before .before .partners3 .ensures) in
-    let sb = c .before .before .and-not2 .ensures ∙ ap (andNot (a .mb)) (c .before .before .before .partners4 .ensures) in
+    let s = c .before .before .before .before .before .before .before .before in
+    let a = s .args in
+    let e = s .pre .1 in
+    let va = c .before .before .before .before .before .before .before .partners .ensures (a .va) (ap (λ (r : FourWords). r .b) e) in
+    let vb = c .before .before .before .before .before .before .partners2 .ensures (a .vb) (ap (λ (r : FourWords). r .d) e) in
+    let ma = c .before .before .before .partners4 .ensures (a .ma) (ap (λ (r : FourWords). r .a) e) in
+    let mb = c .before .before .before .before .before .partners3 .ensures (a .mb) (ap (λ (r : FourWords). r .c) e) in
+    let sa = c .before .before .before .before .and-not .ensures ∙ ap (andNot (a .ma)) mb in
+    let sb = c .before .before .and-not2 .ensures ∙ ap (andNot (a .mb)) ma in
     let la = ap (bitOr (a .va)) (ap₂ bitAnd sa vb) in
     let lb = ap (bitOr (a .vb)) (ap₂ bitAnd sb va) in
     let ga = ap (bitOr (a .va)) (c .before .and-not3 .ensures ∙ ap₂ andNot sa vb) in

@@ -7,7 +7,7 @@ use borrow.Author.Tests.{le-leb, lt-leb}
 use borrow.Author.Needs.{needs}
 use Rattle.bits.specs.Bit.{digit}
 use Rattle.products.specs.Factors.{lowRow, leastBit}
-use Rattle.products.proofs.Words.{shifted-one}
+use Rattle.bits.proofs.Words.{shifted-one}
 use Rattle.products.proofs.Sizes.{row-size}
 use Rattle.products.proofs.factors.least_bit.Statement.{statement}
 use Rattle.products.proofs.factors.least_bit.Tie as tie

@@ -5,7 +5,7 @@ use native.Mathlib.Omega.{arith}
 use lib.Bits.{bitOr}
 use borrow.Author.Needs.{needs}
 use Rattle.products.specs.Factors.{withPair}
-use Rattle.products.proofs.Words.{shifted-bit}
+use Rattle.bits.proofs.Words.{shifted-bit}
 use Rattle.products.proofs.factors.with_pair.Statement.{statement}
 use Rattle.products.proofs.factors.with_pair.Tie as tie
 

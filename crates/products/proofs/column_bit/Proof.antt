@@ -1,4 +1,4 @@
--- `product_bit` meets its contract: the pair mask decides, and each of its cases is a law of algorithm 2. Assumes nothing.
+-- `column_bit` meets its contract: the pair mask decides, and each of its cases is a law of algorithm 2. Assumes nothing.
 use mathlib.Core.Path.{_≡_, sym, ap, _∙_}
 use mathlib.Core.Logic.{_≢_}
 use Prim.Native.Nat.{ℕ, _+_, _*_, _%_, _^_, _<_}
@@ -8,18 +8,19 @@ use lib.Bits.{bitAnd, and-le-l}
 use lib.Count.{trailingZeros}
 use borrow.Author.Needs.{needs}
 use Rattle.bits.specs.Reversed.{reversed}
-use Rattle.products.proofs.Words.{shifted-one}
-use Rattle.products.proofs.PairMask.{lowest}
+use Rattle.bits.specs.declared.FourWords.{FourWords}
+use Rattle.bits.proofs.Words.{shifted-one}
+use Rattle.bits.proofs.LowestBit.{lowest}
 use Rattle.products.proofs.Algorithm.{no-pair-bit, some-pairs-bit, lone-within, lone-pair-bit}
-use Rattle.products.proofs.product_bit.Statement.{statement}
-use Rattle.products.proofs.product_bit.Tie as tie
+use Rattle.products.proofs.column_bit.Statement.{statement}
+use Rattle.products.proofs.column_bit.Tie as tie
 
 -- the pair mask, after `partners`
 abbrev pairs : tie.After-partners → ℕ
 pairs p = bitAnd (p .before .args .ma) (p .partners .result)
 
 pairs-are : (p : tie.After-partners) → pairs p ≡ bitAnd (p .before .args .ma) (reversed (p .before .args .k + 1) (p .before .args .mb))
-pairs-are p = ap (bitAnd (p .before .args .ma)) (p .partners .ensures)
+pairs-are p = ap (bitAnd (p .before .args .ma)) (p .partners .ensures (p .before .args .mb) (ap (λ (r : FourWords). r .c) (p .before .pre .1)))
 
 pairs-below : (p : tie.After-partners) → pairs p < 2 ^ 32
 pairs-below p = lt-of-le-of-lt (and-le-l (p .before .args .ma) (p .partners .result)) (p .before .fits .ma .fits)
@@ -60,7 +61,7 @@ with-pair-requires : tie.Need-with-pair-requires
 with-pair-requires c κs =
     let p = c .before .before .before in
     let a = p .before .args in
-    let g = p .before .pre in
+    let g = p .before .pre .0 in
     (lone-within (g .width) (a .ma) (a .va) (a .mb) (a .vb) (a .k) (g .below) (g .first) (g .second) _ (pairs-are p) _ (is-lone p (c .before .before .if1 .left) (c .before .if2 .left)), omega (arith, g .below, g .most))
 
 settle-requires-2 : tie.Need-settle-requires-2
@@ -73,8 +74,8 @@ returns-3 c w h F G =
     lone-pair-bit w (a .ma) (a .va) (a .mb) (a .vb) (a .k) h F G _ (pairs-are p) _ (is-lone p (c .before .before .before .before .if1 .left) (c .before .before .before .if2 .left)) _ _ _
     (c .before .before .extreme-factors2 .ensures) (c .before .with-pair .ensures) (c .settle2 .ensures)
 
-pub product-bit-spec : {M : Type 1} → statement M
-product-bit-spec =
+pub column-bit-spec : {M : Type 1} → statement M
+column-bit-spec =
     tie.close
     (tie.spec
     partners-requires

@@ -1,0 +1,114 @@
+-- The unknown columns put together from those that plain products settle and those that are worked out. Assumes nothing.
+--   Worked m u found rest   of the columns in u, those in rest are left; found has the unknown ones of the others, m being the product's mask
+--   settled-or-worked       the unknown columns, from both
+--   known-operands          no column is unknown if no bit of an operand is
+use mathlib.Core.Path.{_≡_, sym, ap, _∙_}
+use mathlib.Core.Logic.{_≢_, inl, inr}
+use Prim.Native.Nat.{ℕ, zero, suc, _+_, _-_, _*_, _^_, _≤_, _<_, min, max}
+use native.Mathlib.Nat.{le-refl, one-mul}
+use native.Mathlib.Decide.{ℕ-discrete}
+use native.Mathlib.Omega.{arith}
+use lib.Bits.{bitAnd, bitOr, or-add-and, or-lt, and-le-l, and-le-r, and-lt}
+use lib.Count.{trailingZeros}
+use Rattle.bits.specs.Bit.{bit}
+use Rattle.bits.proofs.Bits.{bit-lt, bit-cases, bit-and, bit-or, bit-above, bit-ext, bit-of-zero}
+use Rattle.bits.proofs.Constants.{bit-pow, bit-pow-other, bit-ones, bit-complement}
+use Rattle.bits.proofs.Numbers.{below-of-bits}
+use Rattle.bits.proofs.LowestBit.{lowest, clear-at, clear-other}
+use Rattle.vectors.specs.Row.{row}
+use Rattle.vectors.proofs.BestLaws.{known-covers}
+use Rattle.columns.specs.Settled.{productOf, Formed, AllUnknown, AllKnown}
+use Rattle.columns.proofs.ProductMask.{product-steady}
+
+-- ---- one column of a word
+
+column-at : (s k : ℕ) → s < 2 → bit (s * 2 ^ k) k ≡ s
+column-at zero k h = let e : 0 * 2 ^ k ≡ 0 = omega arith in ap (λ (n : ℕ). bit n k) e ∙ bit-of-zero k
+column-at (suc zero) k h = ap (λ (n : ℕ). bit n k) (one-mul (2 ^ k)) ∙ bit-pow k
+column-at (suc (suc s)) k h = absurd (omega arith)
+
+column-other : (s k j : ℕ) → s < 2 → j ≢ k → bit (s * 2 ^ k) j ≡ 0
+column-other zero k j h d = let e : 0 * 2 ^ k ≡ 0 = omega arith in ap (λ (n : ℕ). bit n j) e ∙ bit-of-zero j
+column-other (suc zero) k j h d = ap (λ (n : ℕ). bit n j) (one-mul (2 ^ k)) ∙ bit-pow-other k j d
+column-other (suc (suc s)) k j h d = absurd (omega arith)
+
+-- ---- the columns that are worked out
+
+pub record Worked (m u found rest : ℕ) : Type 0 where
+  pub left : (j : ℕ) → bit rest j ≤ bit u j
+  pub done : (j : ℕ) → bit found j ≡ min (bit u j - bit rest j) (bit m j)
+
+pub worked-start : (m u : ℕ) → Worked m u 0 u
+worked-start m u = record { left = λ j. le-refl (bit u j); done = λ j. bit-of-zero j ∙ omega arith }
+
+pub worked-next : (v m u found rest d : ℕ) → rest ≢ 0 → rest < 2 ^ v → d ≡ bit m (trailingZeros v rest) * 2 ^ trailingZeros v rest
+    → Worked m u found rest → Worked m u (bitOr found d) (bitAnd rest (rest - 1))
+worked-next v m u found rest d n l e W =
+    record {
+      left = λ j. let x = bit-and rest (rest - 1) j in let y = W .left j in omega arith;
+      done = λ j. bit-or found d j ∙ elim (ℕ-discrete j (trailingZeros v rest)) [ yes f ↦ at j f | no f ↦ other j f ];
+    }
+  where
+    at : (j : ℕ) → j ≡ trailingZeros v rest → max (bit found j) (bit d j) ≡ min (bit u j - bit (bitAnd rest (rest - 1)) j) (bit m j)
+    at j f =
+        let a : bit d j ≡ bit m j =
+        ap (λ (x : ℕ). bit x j) e ∙ ap (bit (bit m (trailingZeros v rest) * 2 ^ trailingZeros v rest)) f
+        ∙ column-at (bit m (trailingZeros v rest)) (trailingZeros v rest) (bit-lt m (trailingZeros v rest))
+        ∙ ap (bit m) (sym f) in
+        let b = ap (bit rest) f ∙ lowest v rest n l .1 in
+        let c = ap (bit (bitAnd rest (rest - 1))) f ∙ clear-at v rest n l in
+        let g = W .left j in
+        let h = W .done j in
+        let i = bit-lt u j in
+        let k = bit-lt m j in
+        omega arith
+
+    other : (j : ℕ) → j ≢ trailingZeros v rest → max (bit found j) (bit d j) ≡ min (bit u j - bit (bitAnd rest (rest - 1)) j) (bit m j)
+    other j f =
+        let a : bit d j ≡ 0 = ap (λ (x : ℕ). bit x j) e ∙ column-other (bit m (trailingZeros v rest)) (trailingZeros v rest) j (bit-lt m (trailingZeros v rest)) f in
+        let c = clear-other v rest n l j f in
+        let h = W .done j in
+        omega arith
+
+pub worked-below : (w m u found rest : ℕ) → u < 2 ^ w → Worked m u found rest → rest < 2 ^ w
+worked-below w m u found rest h W = below-of-bits w rest (λ j l. let x = W .left j in let y = bit-above w u j h l in omega arith)
+
+pub worked-end : (w m u found rest : ℕ) → u < 2 ^ w → m < 2 ^ w → rest ≡ 0 → Worked m u found rest → found ≡ bitAnd u m
+worked-end w m u found rest h i z W =
+    bit-ext w found (bitAnd u m) (below-of-bits w found (λ j l. at j ∙ (let y = bit-above w u j h l in omega arith))) (and-lt w u m h i)
+    (λ j l. at j ∙ sym (bit-and u m j))
+  where
+    at : (j : ℕ) → bit found j ≡ min (bit u j) (bit m j)
+    at j = let x = ap (λ (n : ℕ). bit n j) z ∙ bit-of-zero j in let y = W .done j in omega arith
+
+-- ---- what is settled and what is not
+
+module _ (w ma va mb vb s n u r : ℕ) (F : Formed w ma va mb vb) (hs : s < 2 ^ 32) (hn : n < 2 ^ 32) where
+  pub settled-or-worked : AllUnknown ma va mb vb s → AllKnown ma va mb vb n → u ≡ bitAnd (2 ^ 32 - 1 - bitOr s n) (2 ^ w - 1)
+      → r ≡ bitAnd u (productOf w ma va mb vb .mask) → (k : ℕ) → k < w → bit (bitOr s r) k ≡ bit (productOf w ma va mb vb .mask) k
+  settled-or-worked A B e f k h =
+      let m = F .most in
+      let a = bit-or s r k in
+      let b = ap (λ (x : ℕ). bit x k) f ∙ bit-and u (productOf w ma va mb vb .mask) k in
+      let c = ap (λ (x : ℕ). bit x k) e ∙ bit-and (2 ^ 32 - 1 - bitOr s n) (2 ^ w - 1) k in
+      let d = bit-complement 32 (bitOr s n) k (or-lt 32 s n hs hn) (omega arith) in
+      let o = bit-ones w k h in
+      let p = bit-or s n k in
+      let q = bit-lt (productOf w ma va mb vb .mask) k in
+      elim (bit-cases s k) [
+        | inr y ↦ let z = A w F k y h in omega arith
+        | inl y ↦ elim (bit-cases n k) [
+          | inr x ↦ let z = B w F k x h in omega arith
+          | inl x ↦ omega arith
+        ]
+      ]
+
+or-none : (m n : ℕ) → bitOr m n ≡ 0 → (m ≡ 0) × (n ≡ 0)
+or-none m n e = let a = or-add-and m n in let b = and-le-l m n in let c = and-le-r m n in (omega arith, omega arith)
+
+pub known-operands : (w ma va mb vb : ℕ) → Formed w ma va mb vb → bitOr ma mb ≡ 0 → (k : ℕ) → k < w → bit 0 k ≡ bit (productOf w ma va mb vb .mask) k
+known-operands w ma va mb vb F e k h =
+    let (p, q) = or-none ma mb e in
+    bit-of-zero k
+    ∙ sym (product-steady w ma va mb vb k h (bit (va * vb) k) (λ a b ca cb.
+    ap (λ (n : ℕ). bit (n * b) k) (known-covers (row w ma va) a (F .first) p ca) ∙ ap (λ (n : ℕ). bit (va * n) k) (known-covers (row w mb vb) b (F .second) q cb)))

@@ -1,0 +1,73 @@
+-- `unknown_below` meets its contract. Assumes nothing.
+use borrow.Author.Needs.{needs}
+use mathlib.Core.Path.{sym, ap, subst}
+use Prim.Native.Nat.{ℕ, _-_, _^_, _<_}
+use native.Mathlib.Omega.{arith}
+use lib.Bits.{bitAnd, bitOr, mask-lt}
+use lib.Count.{ones-le}
+use Rattle.products.proofs.Unsettled.{settled-or-worked, known-operands}
+use Rattle.products.proofs.unknown_below.Statement.{statement}
+use Rattle.products.proofs.unknown_below.Tie as tie
+use Rattle.bits.proofs.width_mask.Reads as width-mask-reads
+use Rattle.columns.proofs.choices.by_every_choice.Reads as by-every-choice-reads
+use Rattle.columns.proofs.known_columns.Reads as known-columns-reads
+use Rattle.columns.proofs.witnesses.unknown_columns.Reads as unknown-columns-reads
+use Rattle.products.proofs.unknown_among.Reads as unknown-among-reads
+
+returns : tie.Need-returns
+returns c = let a = c .before .args in known-operands (a .w) (a .ma) (a .va) (a .mb) (a .vb) (c .before .pre .1) (c .if1 .taken)
+
+add-if2 : tie.Need-add-if2
+add-if2 c =
+    let s = c .before in
+    let x = ones-le 32 (s .args .ma) (s .fits .ma .fits) in
+    let y = ones-le 32 (s .args .mb) (s .fits .mb .fits) in
+    record { fits = omega arith }
+
+by-every-choice-requires : tie.Need-by-every-choice-requires
+by-every-choice-requires c κs = search needs
+
+returns-2 : tie.Need-returns-2
+returns-2 c k h = let s = c .before .before .before in sym (c .by-every-choice .ensures (s .args .w) (s .pre .1) k h)
+
+unknown-columns-requires : tie.Need-unknown-columns-requires
+unknown-columns-requires c κs = search needs
+
+known-columns-requires : tie.Need-known-columns-requires
+known-columns-requires c κs = search needs
+
+width-mask-requires : tie.Need-width-mask-requires
+width-mask-requires c κs = search needs
+
+unknown-among-requires : tie.Need-unknown-among-requires
+unknown-among-requires c κs =
+    let s = c .before .before .before .before .before in
+    let w = s .args .w in
+    let x = 2 ^ 32 - 1 - bitOr (c .before .before .unknown-columns .result) (c .before .known-columns .result) in
+    record { width = w; formed = s .pre .1; below = subst (λ (n : ℕ). bitAnd x n < 2 ^ w) (sym (c .width-mask .ensures)) (mask-lt x w) }
+
+returns-3 : tie.Need-returns-3
+returns-3 c =
+    let s = c .before .before .before .before .before .before in
+    let a = s .args in
+    let F = s .pre .1 in
+    let d = c .before .before .before .unknown-columns in
+    let n = c .before .before .known-columns in
+    let x = 2 ^ 32 - 1 - bitOr (d .result) (n .result) in
+    let e = ap (bitAnd x) (c .before .width-mask .ensures) in
+    settled-or-worked (a .w) (a .ma) (a .va) (a .mb) (a .vb) (d .result) (n .result) _ (c .unknown-among .result) F (d .ok) (n .ok) (d .ensures) (n .ensures) e
+    (c .unknown-among .ensures (a .w) F (subst (λ (y : ℕ). y < 2 ^ a .w) (sym e) (mask-lt x (a .w))))
+
+pub unknown-below-spec : {M : Type 1} → statement M
+unknown-below-spec =
+    tie.close
+    (tie.spec
+    returns
+    add-if2
+    by-every-choice-requires
+    returns-2
+    unknown-columns-requires
+    known-columns-requires
+    width-mask-requires
+    unknown-among-requires
+    returns-3)

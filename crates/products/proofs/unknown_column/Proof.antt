@@ -1,0 +1,35 @@
+-- `unknown_column` meets its contract. Assumes nothing.
+use borrow.Author.Needs.{needs}
+use mathlib.Core.Path.{ap, _∙_}
+use Prim.Native.Nat.{ℕ, _*_, _%_, _^_}
+use native.Mathlib.Omega.{arith}
+use Rattle.bits.specs.Bit.{bit}
+use Rattle.bits.proofs.Bits.{bit-lt}
+use Rattle.bits.proofs.Words.{shifted-bit}
+use Rattle.columns.specs.Settled.{productOf}
+use Rattle.products.proofs.Planes.{mask-bit-of}
+use Rattle.products.proofs.unknown_column.Statement.{statement}
+use Rattle.products.proofs.unknown_column.Tie as tie
+use Rattle.products.proofs.column_bit.Reads as column-bit-reads
+use Rattle.products.proofs.mask_bit.Reads as mask-bit-reads
+
+column-bit-requires : tie.Need-column-bit-requires
+column-bit-requires c κs = search needs
+
+mask-bit-requires : tie.Need-mask-bit-requires
+mask-bit-requires c κs = search needs
+
+shl-result : tie.Need-shl-result
+shl-result c = search needs
+
+returns : tie.Need-returns
+returns c w h F =
+    let s = c .before .before in
+    let a = s .args in
+    let m = F .most in
+    let q = productOf w (a .ma) (a .va) (a .mb) (a .vb) in
+    let e = mask-bit-of q (a .k) _ _ (c .before .column-bit .ensures w h (F .first) (F .second)) (c .mask-bit .ensures) in
+    ap (λ (n : ℕ). n * 2 ^ a .k % 2 ^ 32) e ∙ shifted-bit 32 (bit (q .mask) (a .k)) (a .k) (bit-lt (q .mask) (a .k)) (omega arith)
+
+pub unknown-column-spec : {M : Type 1} → statement M
+unknown-column-spec = tie.close (tie.spec column-bit-requires mask-bit-requires shl-result returns)
