@@ -1,13 +1,14 @@
 -- The two planes of a product. Assumes nothing.
 --   mask-bit-of   an answer's mask bit is the vector's
+--   planes-known  the planes of known operands' product
 --   planes-of     the planes from the unknown columns and the values' product, cut to the width
-use mathlib.Core.Path.{_≡_, sym, ap, subst, _∙_}
+use mathlib.Core.Path.{_≡_, sym, ap, ap₂, subst, _∙_}
 use mathlib.Core.Logic.{inl, inr}
-use Prim.Native.Nat.{ℕ, _-_, _*_, _%_, _^_, _<_, min}
-use native.Mathlib.Nat.{lt-of-le-of-lt, lt-of-lt-of-le}
+use Prim.Native.Nat.{ℕ, _-_, _*_, _%_, _^_, _≤_, _<_}
+use native.Mathlib.Nat.{lt-of-le-of-lt, lt-of-lt-of-le, mod-eq-of-lt}
 use native.Mathlib.Omega.{arith}
 use lib.Pow.{pow-mono}
-use lib.Bits.{bitAnd, and-le-r, and-mask, mask-lt}
+use lib.Bits.{bitAnd, bitOr, and-zero-l, and-comm, and-le-r, and-mask, mask-lt}
 use Rattle.bits.specs.Bit.{bit}
 use Rattle.bits.proofs.Bits.{bit-lt, bit-cases, bit-and, bit-ext}
 use Rattle.bits.proofs.Constants.{bit-complement, bit-ones}
@@ -18,6 +19,7 @@ use Rattle.columns.specs.Settled.{productOf, Formed}
 use Rattle.columns.proofs.ProductMask.{product-formed, product-width, product-below, product-value}
 use Rattle.products.specs.OutputBits.{outputBit, maskBit}
 use Rattle.products.proofs.Outputs.{output-unknown, output-known}
+use Rattle.products.proofs.Unsettled.{known-operands}
 
 pub mask-bit-of : (r : Row) (k : ℕ) (b : OutputBit) (u : ℕ) → b ≡ outputBit r k → u ≡ maskBit b → u ≡ bit (r .mask) k
 mask-bit-of r k b u eb eu =
@@ -69,3 +71,18 @@ module _ (w ma va mb vb r p : ℕ) (F : Formed w ma va mb vb) (e : p ≡ va * vb
   planes-of ones f =
       ap (λ (x : ℕ). row w (bitAnd r x) (bitAnd p (bitAnd (2 ^ 32 - 1 - bitAnd r x) x))) f
       ∙ (λ ι. record { width = sym (product-width w ma va mb vb) ι; mask = masks ι; value = values ι })
+
+pub planes-known : (w ma va mb vb p ones : ℕ) → Formed w ma va mb vb → p ≡ va * vb % 2 ^ 32 → ones ≡ 2 ^ w - 1 → bitOr ma mb ≡ 0
+    → row w 0 (bitAnd p ones) ≡ productOf w ma va mb vb
+planes-known w ma va mb vb p ones F e f z =
+    ap₂ (row w) (sym none) (ap (bitAnd p) (sym all)) ∙ planes-of w ma va mb vb 0 p F e (known-operands w ma va mb vb F z) ones f
+  where
+    none : bitAnd 0 ones ≡ 0
+    none = and-zero-l ones
+
+    all : bitAnd (2 ^ 32 - 1 - bitAnd 0 ones) ones ≡ ones
+    all =
+        ap (λ (x : ℕ). bitAnd (2 ^ 32 - 1 - x) ones) none
+        ∙ and-comm (2 ^ 32 - 1) ones
+        ∙ and-mask ones 32
+        ∙ mod-eq-of-lt (let x = F .most in let y : 2 ^ w ≤ 2 ^ 32 = pow-mono {j = 32} x in omega arith)

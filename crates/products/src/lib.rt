@@ -96,9 +96,6 @@ fn unknown_below(w: u32, ma: u32, va: u32, mb: u32, vb: u32) -> u32
     requires { ⌜ (1 ≤ w) × Formed w ma va mb vb ⌝ }
     ensures { λ r. ⌜ ((k : ℕ) → k < w → bit r k ≡ bit (productOf w ma va mb vb .mask) k) ⌝ }
 {
-    if ma | mb == 0 {
-        return 0;
-    }
     if u32::count_ones(ma) + u32::count_ones(mb) <= 6 {
         return by_every_choice(ma, va, mb, vb);
     }
@@ -112,6 +109,12 @@ pub fn mul(w: u32, ma: u32, va: u32, mb: u32, vb: u32) -> Vector
     requires { ⌜ (w ≤ 32) × Ready opMul w 0 (row w ma va ∷ row w mb vb ∷ []) ⌝ }
     ensures { λ r. ⌜ row w (r .mask) (r .value) ≡ resultOf opMul w 0 (row w ma va ∷ row w mb vb ∷ []) ⌝ }
 {
+    if ma | mb == 0 {
+        return Vector {
+            mask: 0,
+            value: product(va, vb) & width_mask(w),
+        };
+    }
     let ones = width_mask(w);
     let mask = unknown_below(w, ma, va, mb, vb) & ones;
     Vector {

@@ -9,8 +9,6 @@ use Rattle.bits.specs.Reversed.{reversed}
 use Rattle.bits.proofs.Reversed.{reversed-cat}
 use Rattle.bits.proofs.reverse.Statement.{statement}
 use Rattle.bits.proofs.reverse.Tie as tie
-use Rattle.bits.proofs.append_byte.Reads as append-byte-reads
-use Rattle.bits.proofs.reverse_byte_at.Reads as reverse-byte-at-reads
 
 -- one byte of the word's rest from bit k
 byte : (x k m : ℕ) → reversed (8 + m) (x / 2 ^ k) ≡ reversed 8 (x / 2 ^ k) * 2 ^ m + reversed m (x / 2 ^ (k + 8))

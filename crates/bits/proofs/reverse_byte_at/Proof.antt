@@ -8,7 +8,6 @@ use Rattle.bits.specs.Reversed.{reversed}
 use Rattle.bits.proofs.Reversed.{reversed-mod, reversed-below}
 use Rattle.bits.proofs.reverse_byte_at.Statement.{statement}
 use Rattle.bits.proofs.reverse_byte_at.Tie as tie
-use Rattle.bits.proofs.reversed_bytes.reverse_byte.Reads as reverse-byte-reads
 
 shr-reverse-byte : tie.Need-shr-reverse-byte
 shr-reverse-byte c = search needs

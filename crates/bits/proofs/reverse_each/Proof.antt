@@ -2,7 +2,6 @@
 use borrow.Author.Needs.{needs}
 use Rattle.bits.proofs.reverse_each.Statement.{statement}
 use Rattle.bits.proofs.reverse_each.Tie as tie
-use Rattle.bits.proofs.reverse.Reads as reverse-reads
 
 reverse-requires : tie.Need-reverse-requires
 reverse-requires c κs = search needs

@@ -5,7 +5,6 @@ use Rattle.bits.specs.Bit.{bit, isSet, number}
 use Rattle.bits.specs.Reversed.{reversed, reversedBytes}
 use Rattle.bits.proofs.reverse_words.Statement.{statement}
 use Rattle.bits.proofs.reverse_words.Tie as tie
-use Rattle.bits.proofs.reverse_each.Reads as reverse-each-reads
 
 reverse-each-requires : tie.Need-reverse-each-requires
 unfolding reversedBytes reversed number isSet bit

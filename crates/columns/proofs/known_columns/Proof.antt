@@ -3,9 +3,6 @@ use borrow.Author.Needs.{needs}
 use Rattle.columns.proofs.Ends.{known-ends}
 use Rattle.columns.proofs.known_columns.Statement.{statement}
 use Rattle.columns.proofs.known_columns.Tie as tie
-use Rattle.columns.proofs.ones_below.Reads as ones-below-reads
-use Rattle.columns.proofs.reach.end_reached.Reads as end-reached-reads
-use Rattle.columns.proofs.reach.first_reached.Reads as first-reached-reads
 
 first-reached-requires : tie.Need-first-reached-requires
 first-reached-requires c κs = search needs

@@ -11,8 +11,6 @@ use Rattle.columns.proofs.ProductMask.{product-below}
 use Rattle.products.proofs.Unsettled.{Worked, worked-start, worked-next, worked-below, worked-end}
 use Rattle.products.proofs.unknown_among.Statement.{statement}
 use Rattle.products.proofs.unknown_among.Tie as tie
-use Rattle.bits.proofs.reverse_words.Reads as reverse-words-reads
-use Rattle.products.proofs.unknown_column.Reads as unknown-column-reads
 
 abbrev Inv-loop : tie.InvT-loop
 Inv-loop unsettled ma va mb vb reverses found₀ rest₀ found rest =

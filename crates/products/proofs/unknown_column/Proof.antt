@@ -10,8 +10,6 @@ use Rattle.columns.specs.Settled.{productOf}
 use Rattle.products.proofs.Planes.{mask-bit-of}
 use Rattle.products.proofs.unknown_column.Statement.{statement}
 use Rattle.products.proofs.unknown_column.Tie as tie
-use Rattle.products.proofs.column_bit.Reads as column-bit-reads
-use Rattle.products.proofs.mask_bit.Reads as mask-bit-reads
 
 column-bit-requires : tie.Need-column-bit-requires
 column-bit-requires c κs = search needs

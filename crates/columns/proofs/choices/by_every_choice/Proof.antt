@@ -8,8 +8,6 @@ use borrow.Author.Needs.{needs}
 use Rattle.columns.proofs.EveryChoice.{joined-word, joined-below, Tried, tried-start, tried-next, every-choice}
 use Rattle.columns.proofs.choices.by_every_choice.Statement.{statement}
 use Rattle.columns.proofs.choices.by_every_choice.Tie as tie
-use Rattle.columns.proofs.choices.chosen.Reads as chosen-reads
-use Rattle.columns.proofs.product.Reads as product-reads
 
 abbrev Inv-loop : tie.InvT-loop
 Inv-loop ma va mb vb plain unknown found₀ s₀ found s = Tried plain va vb unknown found s

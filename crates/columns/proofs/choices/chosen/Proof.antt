@@ -3,7 +3,6 @@ use borrow.Author.Needs.{needs}
 use Rattle.columns.specs.Choices.{differenceAt}
 use Rattle.columns.proofs.choices.chosen.Statement.{statement}
 use Rattle.columns.proofs.choices.chosen.Tie as tie
-use Rattle.columns.proofs.witnesses.differing.Reads as differing-reads
 
 cast-differing : tie.Need-cast-differing
 cast-differing c = search needs

@@ -4,7 +4,6 @@ use lib.Count.{leading-le}
 use Rattle.columns.proofs.Between.{settled-above}
 use Rattle.columns.proofs.reach.end_reached.Statement.{statement}
 use Rattle.columns.proofs.reach.end_reached.Tie as tie
-use Rattle.columns.proofs.exact_product.Reads as exact-product-reads
 
 exact-product-requires : tie.Need-exact-product-requires
 exact-product-requires c κs = search needs

@@ -5,7 +5,6 @@ use lib.Bits.{bitXor}
 use Rattle.columns.specs.Choices.{difference}
 use Rattle.columns.proofs.witnesses.differing.Statement.{statement}
 use Rattle.columns.proofs.witnesses.differing.Tie as tie
-use Rattle.columns.proofs.product.Reads as product-reads
 
 product-requires : tie.Need-product-requires
 product-requires c κs = search needs

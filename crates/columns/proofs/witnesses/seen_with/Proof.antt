@@ -4,7 +4,6 @@ use Rattle.columns.specs.Choices.{Witness}
 use Rattle.columns.proofs.Marked.{marks-or, covered-value, covered-mask, covered-and, witness}
 use Rattle.columns.proofs.witnesses.seen_with.Statement.{statement}
 use Rattle.columns.proofs.witnesses.seen_with.Tie as tie
-use Rattle.columns.proofs.witnesses.differing.Reads as differing-reads
 
 differing-requires : tie.Need-differing-requires
 differing-requires c κs = search needs

@@ -3,8 +3,6 @@ use borrow.Author.Needs.{needs}
 use Rattle.columns.proofs.Marked.{unknown-or, covered-value, covered-mask, covered-and, witnessed}
 use Rattle.columns.proofs.witnesses.unknown_columns.Statement.{statement}
 use Rattle.columns.proofs.witnesses.unknown_columns.Tie as tie
-use Rattle.columns.proofs.product.Reads as product-reads
-use Rattle.columns.proofs.witnesses.seen_with.Reads as seen-with-reads
 
 product-requires : tie.Need-product-requires
 product-requires c κs = search needs

@@ -6,8 +6,6 @@ use Rattle.bits.specs.declared.FourWords.{FourWords}
 use Rattle.products.specs.Factors.{andNot, leastFactor, greatestFactor, extremesOf}
 use Rattle.products.proofs.factors.extreme_factors.Statement.{statement}
 use Rattle.products.proofs.factors.extreme_factors.Tie as tie
-use Rattle.products.proofs.factors.and_not.Reads as and-not-reads
-use Rattle.products.proofs.factors.partners.Reads as partners-reads
 
 partners-requires : tie.Need-partners-requires
 partners-requires c κs = search needs
