@@ -1,6 +1,6 @@
 -- The arms of the pick: what the checks give of a kind's operands, as its kernel asks for it. Assumes nothing.
-use mathlib.Core.Path.{_≡_, refl, sym, ap, _∙_, subst}
-use mathlib.Core.Bool.{not, _&&_}
+use mathlib.Core.Path.{_≡_, refl, sym, ap, subst, subst₂, _∙_}
+use mathlib.Core.Bool.{Bool, not, _&&_}
 use mathlib.Core.List.{List, [], _∷_}
 use Prim.Native.Nat.{ℕ, zero, suc, _≤_, _<_}
 use native.Mathlib.Nat.{le-of-suc-le-suc}
@@ -8,133 +8,84 @@ use lib.Arith.{lt-of-le-ne}
 use lib.Dec.{T, eqb, eqb→eq}
 use Rattle.bits.proofs.Bools.{T-left, T-right, T-not-not}
 use Rattle.vectors.specs.Row.{Row, row}
-use Rattle.operations.specs.Kind.{Kind}
+use Rattle.operations.specs.Kind.{Use, unused, Kind, sameWidth, sameWidths, comparedWidths}
+use Rattle.operations.specs.Record.{misused}
 use Rattle.operations.specs.Moves.{opCopy, opNot, opAnd, opOr, opXor, opShl, opLshr, opAshr, opRotl, opExtract, opConcat, opZext, opSext}
 use Rattle.operations.specs.Arithmetic.{opAdd, opSub, opNeg, opMul, opEq, opUlt, opSlt, opIte}
 use Rattle.operations.specs.Kinds.{kinds, kindOf}
-use Rattle.operations.specs.Result.{resultOf, Ready}
+use Rattle.operations.specs.Result.{widthsOf, resultOf, Ready}
 use Rattle.kernels.specs.Operands.{operands}
 
--- ---- a kind by its number
+-- ---- an arm: a kind's operands as its kernel names them
 
-module _ (k : Kind) (n : ℕ) (own : kindOf n ≡ k) (kind wt p : ℕ) (ra rb rc : Row) (e : kind ≡ n) where
-  is-kind : kindOf kind ≡ k
+-- what the pick is given: the target's width, the parameter, and the rows that the words a, b and p would name
+pub record Given : Type 0 where
+  pub kind : ℕ
+  pub wt : ℕ
+  pub p : ℕ
+  pub ra : Row
+  pub rb : Row
+  pub rc : Row
+  pub ready : Ready (kindOf kind) wt p (operands (kindOf kind) ra rb rc)
+
+-- a kernel of kind k that is called with width w, parameter q and these rows has what it asks for, and its result is the one that is due
+pub record Arm (g : Given) (k : Kind) (w q : ℕ) (rows : List Row) : Type 0 where
+  pub asks : Ready k w q rows
+  pub gives : resultOf k w q rows ≡ resultOf (kindOf (g .kind)) (g .wt) (g .p) (operands (kindOf (g .kind)) (g .ra) (g .rb) (g .rc))
+
+module _ (k : Kind) (n : ℕ) (own : kindOf n ≡ k) (g : Given) (e : g .kind ≡ n) where
+  is-kind : kindOf (g .kind) ≡ k
   is-kind = ap kindOf e ∙ own
 
-  pub ready-of : Ready (kindOf kind) wt p (operands (kindOf kind) ra rb rc) → Ready k wt p (operands k ra rb rc)
-  ready-of R = subst (λ (j : Kind). Ready j wt p (operands j ra rb rc)) is-kind R
+  pub ready-of : Ready k (g .wt) (g .p) (operands k (g .ra) (g .rb) (g .rc))
+  ready-of = subst (λ (j : Kind). Ready j (g .wt) (g .p) (operands j (g .ra) (g .rb) (g .rc))) is-kind (g .ready)
 
-  pub result-of : resultOf k wt p (operands k ra rb rc) ≡ resultOf (kindOf kind) wt p (operands (kindOf kind) ra rb rc)
-  result-of = ap (λ (j : Kind). resultOf j wt p (operands j ra rb rc)) (sym is-kind)
+  pub result-of : resultOf k (g .wt) (g .p) (operands k (g .ra) (g .rb) (g .rc)) ≡ resultOf (kindOf (g .kind)) (g .wt) (g .p) (operands (kindOf (g .kind)) (g .ra) (g .rb) (g .rc))
+  result-of = ap (λ (j : Kind). resultOf j (g .wt) (g .p) (operands j (g .ra) (g .rb) (g .rc))) (sym is-kind)
 
--- ---- the same widths, parameter and rows under other names
+  -- the same width, parameter and rows under other names
+  pub arm : {w q : ℕ} {rows : List Row} → g .wt ≡ w → g .p ≡ q → operands k (g .ra) (g .rb) (g .rc) ≡ rows → Arm g k w q rows
+  arm {w} {q} {rows} a b c =
+      record {
+        asks = subst (λ (l : List Row). Ready k w q l) c
+            (subst (λ (x : ℕ). Ready k w x (operands k (g .ra) (g .rb) (g .rc))) b
+            (subst (λ (x : ℕ). Ready k x (g .p) (operands k (g .ra) (g .rb) (g .rc))) a ready-of));
+        gives = sym (λ ι. resultOf k (a ι) (b ι) (c ι)) ∙ result-of;
+      }
 
-pub ready-as : {k : Kind} {wt wt′ p p′ : ℕ} {rows rows′ : List Row} → wt ≡ wt′ → p ≡ p′ → rows ≡ rows′ → Ready k wt p rows → Ready k wt′ p′ rows′
-ready-as {k} {wt} {wt′} {p} {p′} {rows} {rows′} e f g R =
-    subst (λ (l : List Row). Ready k wt′ p′ l) g (subst (λ (x : ℕ). Ready k wt′ x rows) f (subst (λ (x : ℕ). Ready k x p rows) e R))
+  -- a word that is not used is 0
+  pub none : k .use-p ≡ unused → g .p ≡ 0
+  none u = eqb→eq (g .p) 0 (T-not-not (eqb (g .p) 0) (subst (λ (v : Use). T (not (misused v (g .p)))) u (ready-of .parameter)))
 
-pub result-as : (k : Kind) {wt wt′ p p′ : ℕ} {rows rows′ : List Row} → wt ≡ wt′ → p ≡ p′ → rows ≡ rows′ → resultOf k wt′ p′ rows′ ≡ resultOf k wt p rows
-result-as k e f g = sym (λ ι. resultOf k (e ι) (f ι) (g ι))
+  -- what the kind's rule says of the operands' widths
+  pub rule : (F : ℕ → List ℕ → ℕ → Bool) (rows : List Row) → k .fits ≡ F → operands k (g .ra) (g .rb) (g .rc) ≡ rows → T (F (g .wt) (widthsOf rows) (g .p))
+  rule F rows f o = subst₂ (λ (G : ℕ → List ℕ → ℕ → Bool) (l : List Row). T (G (g .wt) (widthsOf l) (g .p))) f o (ready-of .fits)
 
-pub same : (v w : ℕ) → T (eqb v w) → w ≡ v
-same v w t = sym (eqb→eq v w t)
+  same : (v w : ℕ) → T (eqb v w) → w ≡ v
+  same v w t = sym (eqb→eq v w t)
 
-pub same-first : (wt wa wb : ℕ) → T (eqb wt wa && eqb wt wb) → wa ≡ wt
-same-first wt wa wb t = same wt wa (T-left (eqb wt wa) (eqb wt wb) t)
+  pub both-same : T (eqb (g .wt) (g .ra .width) && eqb (g .wt) (g .rb .width)) → (g .ra .width ≡ g .wt) × (g .rb .width ≡ g .wt)
+  both-same t = (
+    same (g .wt) (g .ra .width) (T-left (eqb (g .wt) (g .ra .width)) (eqb (g .wt) (g .rb .width)) t),
+    same (g .wt) (g .rb .width) (T-right (eqb (g .wt) (g .ra .width)) (eqb (g .wt) (g .rb .width)) t),
+  )
 
-pub same-second : (wt wa wb : ℕ) → T (eqb wt wa && eqb wt wb) → wb ≡ wt
-same-second wt wa wb t = same wt wb (T-right (eqb wt wa) (eqb wt wb) t)
+  -- one operand of the target's width
+  pub one-row : k .fits ≡ sameWidth → operands k (g .ra) (g .rb) (g .rc) ≡ g .ra ∷ [] → operands k (g .ra) (g .rb) (g .rc) ≡ row (g .wt) (g .ra .mask) (g .ra .value) ∷ []
+  one-row f o = o ∙ (λ ι. row (same (g .wt) (g .ra .width) (rule sameWidth (g .ra ∷ []) f o) ι) (g .ra .mask) (g .ra .value) ∷ [])
 
--- a word that is not used is 0
-pub none : (p : ℕ) → T (not (not (eqb p 0))) → p ≡ 0
-none p t = eqb→eq p 0 (T-not-not (eqb p 0) t)
+  -- two of them
+  pub two-rows : k .fits ≡ sameWidths → k .use-p ≡ unused → operands k (g .ra) (g .rb) (g .rc) ≡ g .ra ∷ g .rb ∷ []
+      → Arm g k (g .wt) 0 (row (g .wt) (g .ra .mask) (g .ra .value) ∷ row (g .wt) (g .rb .mask) (g .rb .value) ∷ [])
+  two-rows f u o =
+      let (a, b) = both-same (rule sameWidths (g .ra ∷ g .rb ∷ []) f o) in
+      arm refl (none u) (o ∙ (λ ι. row (a ι) (g .ra .mask) (g .ra .value) ∷ row (b ι) (g .rb .mask) (g .rb .value) ∷ []))
 
--- one number fewer below
-pub below : (n m : ℕ) → n < suc m → (n ≡ m → ⊥) → n < m
-below n m h d = lt-of-le-ne (le-of-suc-le-suc h) d
-
--- ---- the kinds by number
-
-pub is-copy : kindOf 0 ≡ opCopy
-unfolding kindOf kinds opCopy
-is-copy = refl
-
-pub is-not : kindOf 1 ≡ opNot
-unfolding kindOf kinds opCopy opNot
-is-not = refl
-
-pub is-and : kindOf 2 ≡ opAnd
-unfolding kindOf kinds opCopy opNot opAnd
-is-and = refl
-
-pub is-or : kindOf 3 ≡ opOr
-unfolding kindOf kinds opCopy opNot opAnd opOr
-is-or = refl
-
-pub is-xor : kindOf 4 ≡ opXor
-unfolding kindOf kinds opCopy opNot opAnd opOr opXor
-is-xor = refl
-
-pub is-shl : kindOf 5 ≡ opShl
-unfolding kindOf kinds opCopy opNot opAnd opOr opXor opShl
-is-shl = refl
-
-pub is-lshr : kindOf 6 ≡ opLshr
-unfolding kindOf kinds opCopy opNot opAnd opOr opXor opShl opLshr
-is-lshr = refl
-
-pub is-ashr : kindOf 7 ≡ opAshr
-unfolding kindOf kinds opCopy opNot opAnd opOr opXor opShl opLshr opAshr
-is-ashr = refl
-
-pub is-rotl : kindOf 8 ≡ opRotl
-unfolding kindOf kinds opCopy opNot opAnd opOr opXor opShl opLshr opAshr opRotl
-is-rotl = refl
-
-pub is-extract : kindOf 9 ≡ opExtract
-unfolding kindOf kinds opCopy opNot opAnd opOr opXor opShl opLshr opAshr opRotl opExtract
-is-extract = refl
-
-pub is-concat : kindOf 10 ≡ opConcat
-unfolding kindOf kinds opCopy opNot opAnd opOr opXor opShl opLshr opAshr opRotl opExtract opConcat
-is-concat = refl
-
-pub is-zext : kindOf 11 ≡ opZext
-unfolding kindOf kinds opCopy opNot opAnd opOr opXor opShl opLshr opAshr opRotl opExtract opConcat opZext
-is-zext = refl
-
-pub is-sext : kindOf 12 ≡ opSext
-unfolding kindOf kinds opCopy opNot opAnd opOr opXor opShl opLshr opAshr opRotl opExtract opConcat opZext opSext
-is-sext = refl
-
-pub is-add : kindOf 13 ≡ opAdd
-unfolding kindOf kinds opCopy opNot opAnd opOr opXor opShl opLshr opAshr opRotl opExtract opConcat opZext opSext opAdd
-is-add = refl
-
-pub is-sub : kindOf 14 ≡ opSub
-unfolding kindOf kinds opCopy opNot opAnd opOr opXor opShl opLshr opAshr opRotl opExtract opConcat opZext opSext opAdd opSub
-is-sub = refl
-
-pub is-neg : kindOf 15 ≡ opNeg
-unfolding kindOf kinds opCopy opNot opAnd opOr opXor opShl opLshr opAshr opRotl opExtract opConcat opZext opSext opAdd opSub opNeg
-is-neg = refl
-
-pub is-mul : kindOf 16 ≡ opMul
-unfolding kindOf kinds opCopy opNot opAnd opOr opXor opShl opLshr opAshr opRotl opExtract opConcat opZext opSext opAdd opSub opNeg opMul
-is-mul = refl
-
-pub is-eq : kindOf 17 ≡ opEq
-unfolding kindOf kinds opCopy opNot opAnd opOr opXor opShl opLshr opAshr opRotl opExtract opConcat opZext opSext opAdd opSub opNeg opMul opEq
-is-eq = refl
-
-pub is-ult : kindOf 18 ≡ opUlt
-unfolding kindOf kinds opCopy opNot opAnd opOr opXor opShl opLshr opAshr opRotl opExtract opConcat opZext opSext opAdd opSub opNeg opMul opEq opUlt
-is-ult = refl
-
-pub is-slt : kindOf 19 ≡ opSlt
-unfolding kindOf kinds opCopy opNot opAnd opOr opXor opShl opLshr opAshr opRotl opExtract opConcat opZext opSext opAdd opSub opNeg opMul opEq opUlt opSlt
-is-slt = refl
-
-pub is-ite : kindOf 20 ≡ opIte
-unfolding kindOf kinds opCopy opNot opAnd opOr opXor opShl opLshr opAshr opRotl opExtract opConcat opZext opSext opAdd opSub opNeg opMul opEq opUlt opSlt opIte
-is-ite = refl
+  -- two of one width, and a target of width 1
+  pub compared-rows : k .fits ≡ comparedWidths → k .use-p ≡ unused → operands k (g .ra) (g .rb) (g .rc) ≡ g .ra ∷ g .rb ∷ []
+      → (g .wt ≡ 1) × Arm g k 1 0 (g .ra ∷ row (g .ra .width) (g .rb .mask) (g .rb .value) ∷ [])
+  compared-rows f u o =
+      let t = rule comparedWidths (g .ra ∷ g .rb ∷ []) f o in
+      let w = eqb→eq (g .wt) 1 (T-right (eqb (g .ra .width) (g .rb .width)) (eqb (g .wt) 1) t) in
+      let b = same (g .ra .width) (g .rb .width) (T-left (eqb (g .ra .width) (g .rb .width)) (eqb (g .wt) 1) t) in
+      (w, arm w (none u) (o ∙ (λ ι. g .ra ∷ row (b ι) (g .rb .mask) (g .rb .value) ∷ [])))
