@@ -1,9 +1,9 @@
 -- `texts::fill::fill_records`: the words of the records passed are in the slice, and the rest is still to come. Assumes nothing.
 use mathlib.Core.Path.{ap}
-use Prim.Native.Nat.{_-_}
+use Prim.Native.Nat.{_+_, _-_, _≤_}
 use native.Mathlib.Omega.{arith}
 use borrow.Author.Needs.{needs}
-use lib.ListN.{length-set}
+use lib.ListN.{length, length-set}
 use Rattle.lines.specs.Meant.{lineMeant}
 use Rattle.texts.proofs.FillRecords.{Filling, begin, same-length as kept, ends-in, no-row, no-outside, more, done, room}
 use Rattle.texts.proofs.fill.fill_records.Statement.{statement}
@@ -50,83 +50,55 @@ returns c =
 enum-known-f : tie.Need-enum-known-f Inv-loop μ-loop
 enum-known-f c = search needs
 
+-- the record's five words are in the slice
+space : (c : tie.After-known-told Inv-loop μ-loop) → let l = c .before .before .before .before .before .before .before .loop in l .i + 5 ≤ length (l .words)
+space c =
+    let p6 = c .before .before .before .before .before .before in
+    let p7 = p6 .before in
+    let p10 = p7 .before .before .before in
+    room (p7 .loop .inv) (p6 .loop-test .taken) (p10 .pre .words-hold)
+
 mul-words : tie.Need-mul-words Inv-loop μ-loop
 mul-words c = search needs
 
 slice-write-words : tie.Need-slice-write-words Inv-loop μ-loop
-slice-write-words c =
-    let p6 = c .before .before .before .before .before .before in
-    let p7 = p6 .before in
-    let p10 = p7 .before .before .before in
-    omega (arith, room (p7 .loop .inv) (p6 .loop-test .taken) (p10 .pre .words-hold))
+slice-write-words c = omega (arith, space c)
 
 add-words : tie.Need-add-words Inv-loop μ-loop
-add-words c =
-    let p6 = c .before .before .before .before .before .before in
-    let p7 = p6 .before in
-    let p10 = p7 .before .before .before in
-    omega (arith, room (p7 .loop .inv) (p6 .loop-test .taken) (p10 .pre .words-hold))
+add-words c = omega (arith, space c)
 
 mul-words-2 : tie.Need-mul-words-2 Inv-loop μ-loop
 mul-words-2 c = search needs
 
 slice-write-words-2 : tie.Need-slice-write-words-2 Inv-loop μ-loop
-slice-write-words-2 c =
-    let p6 = c .before .before .before .before .before .before in
-    let p7 = p6 .before in
-    let p10 = p7 .before .before .before in
-    simp length-set (omega (arith, room (p7 .loop .inv) (p6 .loop-test .taken) (p10 .pre .words-hold)))
+slice-write-words-2 c = simp length-set (omega (arith, space c))
 
 add-words-2 : tie.Need-add-words-2 Inv-loop μ-loop
-add-words-2 c =
-    let p6 = c .before .before .before .before .before .before in
-    let p7 = p6 .before in
-    let p10 = p7 .before .before .before in
-    omega (arith, room (p7 .loop .inv) (p6 .loop-test .taken) (p10 .pre .words-hold))
+add-words-2 c = omega (arith, space c)
 
 mul-words-3 : tie.Need-mul-words-3 Inv-loop μ-loop
 mul-words-3 c = search needs
 
 slice-write-words-3 : tie.Need-slice-write-words-3 Inv-loop μ-loop
-slice-write-words-3 c =
-    let p6 = c .before .before .before .before .before .before in
-    let p7 = p6 .before in
-    let p10 = p7 .before .before .before in
-    simp length-set (omega (arith, room (p7 .loop .inv) (p6 .loop-test .taken) (p10 .pre .words-hold)))
+slice-write-words-3 c = simp length-set (omega (arith, space c))
 
 add-words-3 : tie.Need-add-words-3 Inv-loop μ-loop
-add-words-3 c =
-    let p6 = c .before .before .before .before .before .before in
-    let p7 = p6 .before in
-    let p10 = p7 .before .before .before in
-    omega (arith, room (p7 .loop .inv) (p6 .loop-test .taken) (p10 .pre .words-hold))
+add-words-3 c = omega (arith, space c)
 
 mul-words-4 : tie.Need-mul-words-4 Inv-loop μ-loop
 mul-words-4 c = search needs
 
 slice-write-words-4 : tie.Need-slice-write-words-4 Inv-loop μ-loop
-slice-write-words-4 c =
-    let p6 = c .before .before .before .before .before .before in
-    let p7 = p6 .before in
-    let p10 = p7 .before .before .before in
-    simp length-set (omega (arith, room (p7 .loop .inv) (p6 .loop-test .taken) (p10 .pre .words-hold)))
+slice-write-words-4 c = simp length-set (omega (arith, space c))
 
 add-words-4 : tie.Need-add-words-4 Inv-loop μ-loop
-add-words-4 c =
-    let p6 = c .before .before .before .before .before .before in
-    let p7 = p6 .before in
-    let p10 = p7 .before .before .before in
-    omega (arith, room (p7 .loop .inv) (p6 .loop-test .taken) (p10 .pre .words-hold))
+add-words-4 c = omega (arith, space c)
 
 mul-words-5 : tie.Need-mul-words-5 Inv-loop μ-loop
 mul-words-5 c = search needs
 
 slice-write-words-5 : tie.Need-slice-write-words-5 Inv-loop μ-loop
-slice-write-words-5 c =
-    let p6 = c .before .before .before .before .before .before in
-    let p7 = p6 .before in
-    let p10 = p7 .before .before .before in
-    simp length-set (omega (arith, room (p7 .loop .inv) (p6 .loop-test .taken) (p10 .pre .words-hold)))
+slice-write-words-5 c = simp length-set (omega (arith, space c))
 
 enum-told-2 : tie.Need-enum-told-2 Inv-loop μ-loop
 enum-told-2 c = search needs
@@ -150,11 +122,7 @@ add-at c =
     omega (arith, ends-in (p7 .loop .inv) (p5 .end-of .result) (p5 .end-of .ensures .0) (p6 .loop-test .taken))
 
 add-i : tie.Need-add-i Inv-loop μ-loop
-add-i c =
-    let p6 = c .before .before .before .before .before .before in
-    let p7 = p6 .before in
-    let p10 = p7 .before .before .before in
-    omega (arith, room (p7 .loop .inv) (p6 .loop-test .taken) (p10 .pre .words-hold))
+add-i c = omega (arith, space c)
 
 add-k : tie.Need-add-k Inv-loop μ-loop
 add-k c = omega arith
