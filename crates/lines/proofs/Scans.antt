@@ -1,6 +1,7 @@
 -- Loops that look for a separator, by indices into the text. Assumes nothing.
 --   before-stop, before-on, before-end   how far it is to the next separator
 --   past-next, past-end, past-now        how far it is to the n-th
+--   start-zero, start-here               where part n begins
 --   part-zero, part-here, part-bytes     the part found;   part-part   a part of a part
 --   count-here, count-on, count-end      one more part at each separator
 use mathlib.Core.Path.{_≡_, refl, sym, ap, _∙_}
@@ -53,6 +54,21 @@ unfolding past
 past-now text c zero h = refl
 past-now text c (suc left) h = absurd (omega arith)
 
+-- ---- where part n begins
+
+module _ (text : List ℕ) (c n : ℕ) where
+  pub start-zero : n ≡ 0 → 0 ≡ partEnds c n text .start
+  unfolding partEnds
+  start-zero e = ap (λ (k : ℕ). partEnds c k text .start) (sym e)
+
+  pub start-here : (at : ℕ) → (n ≡ 0 → ⊥) → at ≡ past c (n - 1) text → at ≡ partEnds c n text .start
+  unfolding partEnds
+  start-here at z h = go n z h
+    where
+      go : (m : ℕ) → (m ≡ 0 → ⊥) → at ≡ past c (m - 1) text → at ≡ partEnds c m text .start
+      go zero y r = absurd (y refl)
+      go (suc m) y r = let j : suc m - 1 ≡ m = omega arith in r ∙ ap (λ (x : ℕ). past c x text) j
+
 -- ---- the part found
 
 module _ (block offset : ℕ) (text : List ℕ) (c n : ℕ) where
@@ -64,17 +80,15 @@ module _ (block offset : ℕ) (text : List ℕ) (c n : ℕ) where
   unfolding partEnds
   part-zero e = let o : offset ≡ offset + 0 = omega arith in (λ i. record { block = block; offset = o i; bytes = [] }) ∙ sym (ap (λ (k : ℕ). partAt lent (partEnds c k text)) e)
 
-  pub part-here : (n ≡ 0 → ⊥) → (at e o : ℕ) → at ≡ past c (n - 1) text → e ≡ at + before c (drop at text) → o ≡ offset + at
+  pub part-here : (n ≡ 0 → ⊥) → (at e o : ℕ) → at ≡ partEnds c n text .start → e ≡ at + before c (drop at text) → o ≡ offset + at
       → record { block = block; offset = o; bytes = take (e - at) (drop at text) } ≡ partAt lent (partEnds c n text)
   unfolding partEnds
   part-here z at e o h k q = (λ i. record { block = block; offset = q i; bytes = take (e - at) (drop at text) }) ∙ go n z h
     where
-      go : (m : ℕ) → (m ≡ 0 → ⊥) → at ≡ past c (m - 1) text → record { block = block; offset = offset + at; bytes = take (e - at) (drop at text) } ≡ partAt lent (partEnds c m text)
+      go : (m : ℕ) → (m ≡ 0 → ⊥) → at ≡ partEnds c m text .start → record { block = block; offset = offset + at; bytes = take (e - at) (drop at text) } ≡ partAt lent (partEnds c m text)
       go zero y r = absurd (y refl)
       go (suc m) y r =
-          let j : suc m - 1 ≡ m = omega arith in
-          let s : at ≡ past c m text = r ∙ ap (λ (x : ℕ). past c x text) j in
-          ap (λ (x : ℕ). partAt lent (record { start = at; end = x })) k ∙ ap (λ (x : ℕ). partAt lent (record { start = x; end = x + before c (drop x text) })) s
+          ap (λ (x : ℕ). partAt lent (record { start = at; end = x })) k ∙ ap (λ (x : ℕ). partAt lent (record { start = x; end = x + before c (drop x text) })) r
 
 -- its bytes are the piece of that number
 pub part-bytes : (p q : Part) (c n : ℕ) → q ≡ partAt p (partEnds c n (p .bytes)) → q .bytes ≡ nth (pieces c (p .bytes)) n

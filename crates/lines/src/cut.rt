@@ -25,12 +25,12 @@ pub fn end_of(text: &[u8], from: usize, sep: u8) -> usize
     i
 }
 
-// Part `n`, from 1, of a text cut at `sep`; an empty part where there is none.
-pub fn part(text: &[u8], n: usize, sep: u8) -> &[u8]
-    ensures { λ r. ⌜ lies (ptr r) (now r) ≡ partAt (lies (ptr (text .entry)) (now (text .entry))) (partEnds sep n (now (text .entry))) ⌝ }
+// Where part `n`, from 1, of a text cut at `sep` begins; the length where there are fewer parts, and 0 for part 0.
+pub fn start_of(text: &[u8], n: usize, sep: u8) -> usize
+    ensures { λ r. ⌜ (r ≡ partEnds sep n (now (text .entry)) .start) × (r ≤ length (now (text .entry))) ⌝ }
 {
     if n == 0 {
-        return &text[..0];
+        return 0;
     }
     let len = text.len();
     let mut at: usize = 0;
@@ -38,13 +38,24 @@ pub fn part(text: &[u8], n: usize, sep: u8) -> &[u8]
     while 0 < left {
         let e = end_of(text, at, sep);
         if e == len {
-            return &text[e..];
+            return e;
         }
         at = e + 1;
         left -= 1;
     }
-    let end = end_of(text, at, sep);
-    &text[at..end]
+    at
+}
+
+// Part `n`, from 1, of a text cut at `sep`; an empty part where there is none.
+pub fn part(text: &[u8], n: usize, sep: u8) -> &[u8]
+    ensures { λ r. ⌜ lies (ptr r) (now r) ≡ partAt (lies (ptr (text .entry)) (now (text .entry))) (partEnds sep n (now (text .entry))) ⌝ }
+{
+    if n == 0 {
+        return &text[..0];
+    }
+    let start = start_of(text, n, sep);
+    let end = end_of(text, start, sep);
+    &text[start..end]
 }
 
 // How many parts a text cut at `sep` has.

@@ -1,27 +1,14 @@
--- Where a part of a text begins, and where a field found ends. Assumes nothing.
-use mathlib.Core.Path.{_≡_, refl, sym, ap, _∙_}
+-- Where a field found begins and ends. Assumes nothing.
+use mathlib.Core.Path.{_≡_, ap, _∙_}
 use mathlib.Core.List.{List}
-use Prim.Native.Nat.{ℕ, zero, suc, _+_, _-_, _≤_}
+use Prim.Native.Nat.{ℕ, _+_, _-_, _≤_}
 use native.Mathlib.Omega.{arith}
 use lib.ListN.{length, drop, length-drop}
 use lib.Seq.{length-take-le}
 use Rattle.grammar.specs.Words.{lf, tab}
-use Rattle.grammar.specs.Cut.{past, Ends, between, partEnds, within, fieldEnds, Part, fieldOf}
+use Rattle.grammar.specs.Cut.{Ends, between, partEnds, within, fieldEnds, Part, fieldOf}
 use Rattle.grammar.proofs.Parts.{part-within}
 use Rattle.rifflerleek.specs.Host.{resultOf, endsAnswer}
-
-module _ (text : List ℕ) (c n : ℕ) where
-  pub start-zero : n ≡ 0 → 0 ≡ partEnds c n text .start
-  unfolding partEnds
-  start-zero e = ap (λ (k : ℕ). partEnds c k text .start) (sym e)
-
-  pub start-here : (at : ℕ) → (n ≡ 0 → ⊥) → at ≡ past c (n - 1) text → at ≡ partEnds c n text .start
-  unfolding partEnds
-  start-here at z h = go n z h
-    where
-      go : (m : ℕ) → (m ≡ 0 → ⊥) → at ≡ past c (m - 1) text → at ≡ partEnds c m text .start
-      go zero y r = absurd (y refl)
-      go (suc m) y r = let j : suc m - 1 ≡ m = omega arith in r ∙ ap (λ (x : ℕ). past c x text) j
 
 between-length : (bs : List ℕ) (e : Ends) → e .start ≤ e .end → e .end ≤ length bs → length (between bs e) ≡ e .end - e .start
 between-length bs e h k = length-take-le (e .end - e .start) (drop (e .start) bs) (omega (arith, length-drop (e .start) bs))

@@ -7,17 +7,15 @@ ghost use Rattle.tables.specs.Run.{runOf, countOf};
 ghost use Rattle.grammar.specs.Cut.{fieldEnds};
 ghost use Rattle.texts.specs.Calls.{sizeOf, writeOf, readOf};
 ghost use Rattle.rifflerleek.specs.Host.{resultOf, refusalOf, numberAnswer, countAnswer, endsAnswer, outcome, hostRan, hostWritten, hostRead};
-use ends::start_of;
 use lines::cut::LF;
 use lines::cut::TAB;
 use lines::cut::part;
+use lines::cut::start_of;
 use tables::CountAnswer;
 use tables::Refusal;
 use tables::RunAnswer;
 use texts::BytesAnswer;
 use texts::ReadAnswer;
-
-mod ends; // ends.rt: where a part of a text begins
 
 // What every call answers: refusal 0 and up to two results, or the refusal's number and its place.
 #[repr(C)]

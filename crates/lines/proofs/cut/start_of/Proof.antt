@@ -1,13 +1,12 @@
--- `rifflerleek::ends::start_of`: at each turn what is passed, and what is left to pass, make up the start of the part. Assumes nothing.
+-- `lines::cut::start_of`: at each turn what is passed, and what is left to pass, make up the start of the part. Assumes nothing.
 use mathlib.Core.Path.{_≡_, refl}
 use Prim.Native.Nat.{_≤_, _<_, _-_, _+_}
 use native.Mathlib.Omega.{arith}
 use lib.ListN.{length, drop}
 use Rattle.grammar.specs.Cut.{past}
-use Rattle.lines.proofs.Scans.{past-next, past-end, past-now}
-use Rattle.rifflerleek.proofs.Starts.{start-zero, start-here}
-use Rattle.rifflerleek.proofs.ends.start_of.Statement.{statement}
-use Rattle.rifflerleek.proofs.ends.start_of.Tie as tie
+use Rattle.lines.proofs.Scans.{past-next, past-end, past-now, start-zero, start-here}
+use Rattle.lines.proofs.cut.start_of.Statement.{statement}
+use Rattle.lines.proofs.cut.start_of.Tie as tie
 
 abbrev Inv-loop : tie.InvT-loop
 Inv-loop text n sep len at₀ left₀ at left = (at ≤ length text) × (len ≡ length text) × (at + past sep left (drop at text) ≡ past sep (n - 1) text)
