@@ -4,11 +4,11 @@ use mathlib.Core.List.{List}
 use Prim.Native.Nat.{ℕ, _+_, _*_, _/_, _≤_}
 use native.Mathlib.Omega.{arith}
 use lib.ListN.{length, drop, length-append}
-use Rattle.tables.specs.Check.{Answer, done, refused}
-use Rattle.tables.specs.Table.{State, Table, startOf, withRows, recordCount}
-use Rattle.tables.specs.Checks.{sizeBound}
+use Rattle.checks.specs.Check.{Answer, done, refused}
+use Rattle.checks.specs.Table.{State, Table, startOf, withRows, recordCount}
+use Rattle.checks.specs.Checks.{sizeBound}
+use Rattle.checks.specs.Accepted.{TablePassed, Accepted}
 use Rattle.tables.specs.Run.{Ran, programOf, runOf}
-use Rattle.tables.specs.Accepted.{TablePassed, Accepted}
 use Rattle.tables.specs.Demand.{StateFits}
 use Rattle.tables.proofs.Points.{after-fits}
 use Rattle.tables.proofs.Demand3.{ran-done, accepted-of-run, accepted-with, start-fits}

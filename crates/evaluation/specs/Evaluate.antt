@@ -11,9 +11,9 @@ use mathlib.Core.List.{List, [], _∷_, _++_}
 use Prim.Native.Nat.{ℕ, _+_, _*_}
 use lib.ListN.{length, replicate}
 use Rattle.operations.specs.Limits.{recordWords}
-use Rattle.tables.specs.Limits.{rowLimit, recordLimit, rowBytes, recordBytes}
-use Rattle.tables.specs.Check.{Answer, done, refused}
-use Rattle.tables.specs.Table.{Table, withRows, recordCount}
+use Rattle.checks.specs.Limits.{rowLimit, recordLimit, rowBytes, recordBytes}
+use Rattle.checks.specs.Check.{Answer, done, refused}
+use Rattle.checks.specs.Table.{Table, withRows, recordCount}
 use Rattle.tables.specs.Run.{Ran, runOf}
 use Rattle.grammar.specs.Lists.{filled}
 use Rattle.operations.specs.Kind.{bytes}

@@ -1,13 +1,13 @@
 // From a text to what `evaluate` prints (01, "Text").
 ghost use Prim.Native.Nat.{_≤_};
 ghost use lib.ListN.{length};
-ghost use Rattle.tables.specs.Meant.{lent};
+ghost use Rattle.checks.specs.Meant.{lent};
 ghost use Rattle.evaluation.specs.Evaluate.{Printed, outputRoom, refusedLine, printedTable, evaluateIn, evaluateOf};
+use checks::limits::RECORD_WORDS;
+use checks::limits::ROW_LIMIT;
 use lines::put::put_number;
 use lines::put::put_word;
 use tables::RunAnswer;
-use tables::limits::RECORD_WORDS;
-use tables::limits::ROW_LIMIT;
 use tables::run;
 use texts::BytesAnswer;
 use texts::ReadAnswer;

@@ -12,7 +12,7 @@ use lib.Seq.{append-snoc}
 use Rattle.vectors.specs.Row.{row}
 use Rattle.vectors.specs.Lists.{Each}
 use Rattle.operations.specs.Limits.{recordWords}
-use Rattle.tables.specs.Table.{recordCount, recordOf}
+use Rattle.checks.specs.Table.{recordCount, recordOf}
 use Rattle.grammar.specs.Lists.{listed}
 use Rattle.grammar.specs.Words.{lf, tab, edition1}
 use Rattle.grammar.specs.Print.{LineRow, Line, rowLine, recordLine, outside, fieldsOf, joined, lineText, linesText, lineRow, rowLines, recordLines, tableLines, textOf}

@@ -14,10 +14,10 @@ use Rattle.operations.specs.Moves.{opCopy, opNot, opAnd, opOr, opXor, opShl, op
 use Rattle.operations.specs.Arithmetic.{opAdd, opSub, opNeg, opMul, opEq, opUlt, opSlt, opIte}
 use Rattle.operations.specs.Kinds.{kinds}
 use Rattle.operations.specs.Record.{kindWord, targetWord, firstWord, secondWord, parameterWord, kindIn}
-use Rattle.tables.specs.Limits.{rowBytes, recordBytes}
-use Rattle.tables.specs.Table.{Table, recordCount, recordOf}
-use Rattle.tables.specs.Checks.{sizeBound}
-use Rattle.tables.specs.Accepted.{TablePassed}
+use Rattle.checks.specs.Limits.{rowBytes, recordBytes}
+use Rattle.checks.specs.Table.{Table, recordCount, recordOf}
+use Rattle.checks.specs.Checks.{sizeBound}
+use Rattle.checks.specs.Accepted.{TablePassed}
 use Rattle.grammar.specs.Lists.{allOf, listed}
 use Rattle.grammar.specs.Words.{lf, tab, rowWord, opWord, lockWord}
 use Rattle.grammar.specs.Print.{decimal, lettersOf, LineRow, Line, rowLine, recordLine, fieldsOf, joined, lineText, linesText, lineRow, rowLines, recordLines, tableLines, textOf}

@@ -17,8 +17,8 @@ use Rattle.vectors.specs.Lists.{Each}
 use Rattle.operations.specs.Limits.{recordWords, parameterLimit}
 use Rattle.operations.specs.Kind.{Use, asRow, asNumber, unused}
 use Rattle.operations.specs.Record.{targetWord, firstWord, secondWord, parameterWord, kindIn, withRow, rowsNamed, misused}
-use Rattle.tables.specs.Table.{Table, recordCount, recordOf}
-use Rattle.tables.specs.Accepted.{RecordPassed, TablePassed}
+use Rattle.checks.specs.Table.{Table, recordCount, recordOf}
+use Rattle.checks.specs.Accepted.{RecordPassed, TablePassed}
 use Rattle.grammar.specs.Limits.{numberLimit}
 use Rattle.grammar.specs.Lists.{allOf}
 use Rattle.grammar.specs.Print.{lineRow}

@@ -12,8 +12,8 @@ use lib.ListN.{length, getD}
 use lib.Seq.{append-snoc}
 use Rattle.vectors.specs.Lists.{Each}
 use Rattle.operations.specs.Limits.{recordWords}
-use Rattle.tables.specs.Table.{Table, recordCount, recordOf}
-use Rattle.tables.specs.Accepted.{TablePassed}
+use Rattle.checks.specs.Table.{Table, recordCount, recordOf}
+use Rattle.checks.specs.Accepted.{TablePassed}
 use Rattle.grammar.specs.Lists.{allOf, listed}
 use Rattle.grammar.specs.Words.{lf, tab, edition1}
 use Rattle.grammar.specs.Print.{LineRow, Line, rowLine, recordLine, outside, fieldsOf, joined, lineText, linesText, lineRow, rowLines, recordLines, tableLines, textOf}

@@ -7,7 +7,7 @@
 use mathlib.Core.Bool.{Bool, true, false, cond}
 use mathlib.Core.List.{List, [], _∷_, _++_, map}
 use Prim.Native.Nat.{ℕ, suc}
-use Rattle.tables.specs.Table.{Table}
+use Rattle.checks.specs.Table.{Table}
 use Rattle.grammar.specs.Words.{lf, tab, Edition, edition1}
 use Rattle.grammar.specs.Print.{LineRow, Line, rowLine, recordLine, outside}
 use Rattle.grammar.specs.Cut.{pieces}

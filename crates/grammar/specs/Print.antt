@@ -15,7 +15,7 @@ use lib.ListN.{length, getD, drop}
 use Rattle.bits.specs.Bit.{bit}
 use Rattle.vectors.specs.Row.{Row}
 use Rattle.operations.specs.Record.{kindIn}
-use Rattle.tables.specs.Table.{Table, rowAt, startOf, recordCount, recordOf}
+use Rattle.checks.specs.Table.{Table, rowAt, startOf, recordCount, recordOf}
 use Rattle.grammar.specs.Lists.{listed}
 use Rattle.grammar.specs.Words.{lf, tab, rowWord, opWord, lockWord, zeroByte, letter0, letter1, letterX}
 

@@ -8,9 +8,9 @@ use lib.Dec.{T, leb, leb→le}
 use lib.ListN.{length}
 use Rattle.bits.proofs.Bools.{T-and, T-left, T-right}
 use Rattle.operations.specs.Record.{recordFaults, lockFault}
-use Rattle.tables.specs.Check.{Answer, done, refused, Check, verdict, placed, rising}
-use Rattle.tables.specs.Checks.{rowShapeFaults, wordFaults, stretchFaults, rowFaultsAt, rowChecks, openChecks, runChecks}
-use Rattle.tables.specs.Table.{Table, recordCount, recordOf}
+use Rattle.checks.specs.Check.{Answer, done, refused, Check, verdict, placed, rising}
+use Rattle.checks.specs.Checks.{rowShapeFaults, wordFaults, stretchFaults, rowFaultsAt, rowChecks, openChecks, runChecks}
+use Rattle.checks.specs.Table.{Table, recordCount, recordOf}
 
 -- no check of the list has the number 0
 abbrev numbered : List Check → Bool

@@ -3,14 +3,14 @@ use mathlib.Core.Path.{_≡_, refl, sym, ap, _∙_}
 use mathlib.Core.List.{List}
 use Prim.Native.Nat.{ℕ}
 use native.Mathlib.Omega.{arith}
-use Rattle.tables.specs.Check.{Answer, done, refused, verdict}
-use Rattle.tables.specs.Checks.{runChecks}
-use Rattle.tables.specs.Table.{Table}
+use Rattle.checks.specs.Check.{Answer, done, refused, verdict}
+use Rattle.checks.specs.Checks.{runChecks}
+use Rattle.checks.specs.Table.{Table}
+use Rattle.checks.proofs.Verdicts.{passed-of-done, done-of-passed}
 use Rattle.tables.specs.Demand.{Demand3}
 use Rattle.tables.specs.Run.{Ran, ranAs, runOf}
 use Rattle.tables.specs.declared.RunAnswer.{RunAnswer}
 use Rattle.tables.specs.Meant.{held, runMeant, ran}
-use Rattle.tables.proofs.Verdicts.{passed-of-done, done-of-passed}
 use Rattle.rifflerleek.specs.declared.Answer.{Answer as HostAnswer}
 use Rattle.rifflerleek.specs.Host.{numberAnswer, outcome, hostRan}
 use Rattle.rifflerleek.proofs.Numbered.{run-refused}

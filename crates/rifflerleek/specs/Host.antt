@@ -6,8 +6,8 @@
 --   hostRan, hostWritten, hostRead   these of what run, write and read answer and leave
 use mathlib.Core.List.{List}
 use Prim.Native.Nat.{ℕ}
-use Rattle.tables.specs.Check.{Answer, done, refused}
-use Rattle.tables.specs.Table.{State, Table}
+use Rattle.checks.specs.Check.{Answer, done, refused}
+use Rattle.checks.specs.Table.{State, Table}
 use Rattle.tables.specs.Run.{Ran, Count}
 use Rattle.grammar.specs.Cut.{Ends}
 use Rattle.texts.specs.Calls.{Written, Counts, ReadBack}

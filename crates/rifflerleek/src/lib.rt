@@ -1,18 +1,19 @@
 // The library for C, C++ and Rust programs: the public calls, exported (01, "Calls").
 ghost use mathlib.Core.Path.{_≡_};
 ghost use mathlib.Core.List.{[]};
+ghost use Rattle.checks.specs.Meant.{lent};
 ghost use Rattle.tables.specs.Demand.{Demand3};
-ghost use Rattle.tables.specs.Meant.{lent, held};
+ghost use Rattle.tables.specs.Meant.{held};
 ghost use Rattle.tables.specs.Run.{runOf, countOf};
 ghost use Rattle.grammar.specs.Cut.{fieldEnds};
 ghost use Rattle.texts.specs.Calls.{sizeOf, writeOf, readOf};
 ghost use Rattle.rifflerleek.specs.Host.{resultOf, refusalOf, numberAnswer, countAnswer, endsAnswer, outcome, hostRan, hostWritten, hostRead};
+use checks::Refusal;
 use lines::cut::LF;
 use lines::cut::TAB;
 use lines::cut::part;
 use lines::cut::start_of;
 use tables::CountAnswer;
-use tables::Refusal;
 use tables::RunAnswer;
 use texts::BytesAnswer;
 use texts::ReadAnswer;

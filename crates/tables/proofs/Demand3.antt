@@ -6,16 +6,16 @@ use native.Mathlib.Nat.{add-sub-of-le, sub-self}
 use native.Mathlib.Omega.{arith}
 use lib.ListN.{length}
 use Rattle.operations.specs.Record.{Effect, effectOf, effectsOf, targetWord}
-use Rattle.tables.specs.Check.{Answer, done, refused, verdict}
-use Rattle.tables.specs.Table.{State, rowAt, Table, startOf, withRows, recordCount, recordOf}
-use Rattle.tables.specs.Checks.{runChecks}
+use Rattle.checks.specs.Check.{Answer, done, refused, verdict}
+use Rattle.checks.specs.Table.{State, rowAt, Table, startOf, withRows, recordCount, recordOf}
+use Rattle.checks.specs.Checks.{runChecks}
+use Rattle.checks.specs.Accepted.{TablePassed, Accepted}
+use Rattle.checks.proofs.Accepts.{accepted-of-answer, answer-of-accepted}
 use Rattle.tables.specs.Step.{after, plainAfter}
 use Rattle.tables.specs.Run.{effectsAt, programOf, Ran, ranAs, runOf, pointRows, plainRun}
-use Rattle.tables.specs.Accepted.{TablePassed, Accepted}
 use Rattle.tables.specs.Demand.{StateFits, CoversState, InsideState, After, Demand3}
 use Rattle.tables.proofs.Fits.{FitProgram, effects-fit}
 use Rattle.tables.proofs.Points.{Stretch, stretch}
-use Rattle.tables.proofs.Accepts.{accepted-of-answer, answer-of-accepted}
 
 -- ---- run and acceptance
 

@@ -11,8 +11,8 @@ use Rattle.vectors.specs.Lists.{Each}
 use Rattle.operations.specs.Record.{Effect, widthAt, effectOf, effectsOf, rowsNamed, targetWord, kindWord, parameterWord}
 use Rattle.operations.specs.Result.{Below}
 use Rattle.operations.proofs.Bounded.{kind-bounded}
+use Rattle.checks.specs.Accepted.{RecordPassed}
 use Rattle.tables.specs.Step.{Program}
-use Rattle.tables.specs.Accepted.{RecordPassed}
 
 pub record Fit (widths : List ℕ) (e : Effect) : Type 0 where
   pub target-in : e .target < length widths

@@ -19,10 +19,10 @@ use Rattle.operations.specs.Result.{Below, arity}
 use Rattle.operations.specs.Bitvector.{nat}
 use Rattle.operations.specs.Terms.{Term, terms, vectors, Served, Agrees}
 use Rattle.operations.proofs.SmtTerms.{term-of}
-use Rattle.tables.specs.Table.{State, rowAt, Table, startOf, recordCount, recordOf}
+use Rattle.checks.specs.Table.{State, rowAt, Table, startOf, recordCount, recordOf}
+use Rattle.checks.specs.Accepted.{RowPassed, RecordPassed, TablePassed, Accepted}
 use Rattle.tables.specs.Step.{operandRows, result, step, after}
 use Rattle.tables.specs.Run.{programOf, pointRows}
-use Rattle.tables.specs.Accepted.{RowPassed, RecordPassed, TablePassed, Accepted}
 use Rattle.tables.specs.Demand.{StateFits}
 use Rattle.tables.specs.Known.{KnownBefore, smtNumber, SmtNumber}
 use Rattle.tables.proofs.Lists.{map-map, operands-count}

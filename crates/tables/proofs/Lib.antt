@@ -3,14 +3,7 @@ pub mod Put
 pub mod PutAll
 pub mod Steps
 pub mod Points
-pub mod Verdicts
-pub mod RowChecks
-pub mod Accepts
 pub mod Demand3
-pub mod Rules
-pub mod Walks
-pub mod Naming
-pub mod Recording
 pub mod Counts
 pub mod Lists
 pub mod Known

@@ -6,7 +6,7 @@ use Prim.Native.Nat.{ℕ, zero, suc, _+_, _≤_, _<_}
 use native.Mathlib.Nat.{add-zero, add-suc, suc-add}
 use native.Mathlib.Omega.{arith}
 use lib.ListN.{length}
-use Rattle.tables.specs.Table.{State}
+use Rattle.checks.specs.Table.{State}
 use Rattle.tables.specs.Step.{Program, step, plainStep, after, plainAfter}
 use Rattle.tables.specs.Demand.{StateFits, CoversState, InsideState, After}
 use Rattle.tables.proofs.Fits.{FitProgram}

@@ -9,7 +9,7 @@ use lib.ListN.{length, getD, set, length-set}
 use lib.Seq.{getD-set-same, getD-set-other}
 use Rattle.vectors.specs.Row.{Row, WellFormed, Covers, Inside}
 use Rattle.operations.specs.Record.{widthAt}
-use Rattle.tables.specs.Table.{State, rowAt}
+use Rattle.checks.specs.Table.{State, rowAt}
 use Rattle.tables.specs.Step.{put}
 use Rattle.tables.specs.Demand.{StateFits, CoversState, InsideState}
 

@@ -11,7 +11,7 @@ use lib.Seq.{set-getD, getD-set-same, getD-set-other}
 use Rattle.vectors.specs.Lists.{Each}
 use Rattle.vectors.specs.Row.{Row, WellFormed, Covers, Inside}
 use Rattle.operations.specs.Record.{widthAt}
-use Rattle.tables.specs.Table.{State, rowAt}
+use Rattle.checks.specs.Table.{State, rowAt}
 use Rattle.tables.specs.Step.{put, putAll, setAll}
 use Rattle.tables.specs.Demand.{StateFits, CoversState, InsideState}
 use Rattle.vectors.proofs.Lists.{each-imp}

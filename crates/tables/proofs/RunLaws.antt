@@ -2,16 +2,16 @@
 use mathlib.Core.Path.{_≡_, refl, sym, ap, _∙_, subst}
 use Prim.Native.Nat.{ℕ, _-_}
 use native.Mathlib.Omega.{arith}
-use Rattle.tables.specs.Check.{Answer, done, refused, verdict}
-use Rattle.tables.specs.Table.{State, Table, startOf}
-use Rattle.tables.specs.Checks.{runChecks}
+use Rattle.checks.specs.Check.{Answer, done, refused, verdict}
+use Rattle.checks.specs.Table.{State, Table, startOf}
+use Rattle.checks.specs.Checks.{runChecks}
+use Rattle.checks.specs.Accepted.{Accepted}
+use Rattle.checks.specs.Meant.{judged}
+use Rattle.checks.proofs.Accepts.{accepted-of-answer}
+use Rattle.checks.proofs.Verdicts.{refused-any}
 use Rattle.tables.specs.Step.{after}
 use Rattle.tables.specs.Run.{programOf, Ran, ranAs, runOf}
-use Rattle.tables.specs.Accepted.{Accepted}
 use Rattle.tables.specs.Demand.{Demand3}
-use Rattle.tables.specs.Meant.{judged}
-use Rattle.tables.proofs.Accepts.{accepted-of-answer}
-use Rattle.tables.proofs.Counts.{refused-any}
 use Rattle.tables.proofs.Demand3.{ran-done, demand3}
 
 pub never-done : {A : Type 0} (n i : ℕ) (a : A) → _≡_ {A = Answer A} (refused n i) (done a) → ⊥

@@ -19,11 +19,11 @@ use Rattle.operations.specs.Record.{widthAt, withRow, operandWords, rowsNamed, 
 use Rattle.operations.specs.Result.{widthsOf, resultOf, arity, Ready}
 use Rattle.operations.proofs.Lookup.{each-kind, kind-below, below-kind}
 use Rattle.kernels.specs.Operands.{used, operands}
-use Rattle.tables.specs.Limits.{widthLimit}
-use Rattle.tables.specs.Table.{State, rowAt}
+use Rattle.checks.specs.Limits.{widthLimit}
+use Rattle.checks.specs.Table.{State, rowAt}
+use Rattle.checks.proofs.Rules.{first-is-row}
 use Rattle.tables.specs.Step.{result, step}
 use Rattle.tables.specs.Coded.{usedRow, StepReady}
-use Rattle.tables.proofs.Rules.{first-is-row}
 use Rattle.tables.proofs.Lists.{map-map, operands-count}
 
 -- ---- a condition row is one bit wide (refusal 9)

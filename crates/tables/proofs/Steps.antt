@@ -13,7 +13,7 @@ use Rattle.vectors.proofs.Bests.{best-by-bits}
 use Rattle.vectors.proofs.BestLaws.{best-exact, best-covers, best-mono}
 use Rattle.operations.specs.Record.{Effect, widthAt}
 use Rattle.operations.specs.Result.{Below}
-use Rattle.tables.specs.Table.{State, rowAt}
+use Rattle.checks.specs.Table.{State, rowAt}
 use Rattle.tables.specs.Step.{operandRows, operandNumbers, result, step, plainStep}
 use Rattle.tables.specs.Demand.{StateFits, CoversState, InsideState, After}
 use Rattle.tables.proofs.Fits.{Fit, FitRecord}

@@ -8,16 +8,16 @@ use native.Mathlib.Omega.{arith}
 use lib.ListN.{length, getD, take, drop, length-take, length-drop}
 use lib.Seq.{getD-take, getD-drop}
 use Rattle.operations.specs.Record.{Effect, effectsOf}
-use Rattle.tables.specs.Table.{State, Table, startOf, recordCount, recordOf}
+use Rattle.checks.specs.Table.{State, Table, startOf, recordCount, recordOf}
+use Rattle.checks.specs.Accepted.{RecordPassed, Accepted}
+use Rattle.checks.specs.Meant.{lent}
+use Rattle.checks.proofs.Naming.{record-words}
 use Rattle.tables.specs.Step.{Program, step, after}
 use Rattle.tables.specs.Run.{programOf}
-use Rattle.tables.specs.Accepted.{RecordPassed, Accepted}
 use Rattle.tables.specs.Demand.{StateFits}
-use Rattle.tables.specs.Meant.{lent}
 use Rattle.tables.specs.Coded.{StepReady, StretchReady}
 use Rattle.tables.proofs.Points.{after-fits}
 use Rattle.tables.proofs.Demand3.{start-fits}
-use Rattle.tables.proofs.Naming.{record-words}
 
 -- ---- one turn of the loop
 

@@ -13,8 +13,8 @@ use Rattle.vectors.specs.Lists.{Each}
 use Rattle.vectors.specs.Row.{WellFormed, Covers, Inside}
 use Rattle.vectors.specs.Best.{Exact}
 use Rattle.operations.specs.Record.{Effect, widthAt, targetWord, effectOf}
-use Rattle.tables.specs.Check.{done}
-use Rattle.tables.specs.Table.{State, rowAt, Table, startOf, withRows, recordOf}
+use Rattle.checks.specs.Check.{done}
+use Rattle.checks.specs.Table.{State, rowAt, Table, startOf, withRows, recordOf}
 use Rattle.tables.specs.Step.{operandRows}
 use Rattle.tables.specs.Run.{effectsAt, runOf, pointRows, plainRun}
 

@@ -11,7 +11,7 @@ use Rattle.vectors.specs.Row.{row}
 use Rattle.operations.specs.Record.{kindIn, targetWord, parameterWord, rowsNamed, widthAt}
 use Rattle.operations.specs.Bitvector.{nat}
 use Rattle.operations.specs.Terms.{Term, terms, vectors}
-use Rattle.tables.specs.Table.{State, rowAt, Table, recordOf}
+use Rattle.checks.specs.Table.{State, rowAt, Table, recordOf}
 
 abbrev pub KnownBefore : Table → ℕ → State → Type 0
 KnownBefore t s rows = Each (λ i. getD (rows .masks) i 0 ≡ 0) (rowsNamed (recordOf t s))

@@ -1,10 +1,5 @@
-pub mod Limits
-pub mod Check
-pub mod Table
-pub mod Checks
 pub mod Step
 pub mod Run
-pub mod Accepted
 pub mod Demand
 pub mod Coded
 pub mod Meant

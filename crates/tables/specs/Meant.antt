@@ -1,31 +1,16 @@
 -- What the code's answers stand for: the paper's number and values for each case (01, "Calls": "the result, or a refusal holding its number and its place").
---   lent           the table that is lent as five slices
---   judged cs      the first of the checks cs that refuses, or nothing
---   meant          of a verdict of checks;   runMeant   of run's answer;   countMeant   of count's answer
+--   runMeant       of run's answer;   countMeant   of count's answer
 --   held           the rows that two slices of masks and values hold
 --   ran            run's answer together with the rows that the slices hold at exit
 use mathlib.Core.List.{List}
 use Prim.Native.Nat.{ℕ}
-use Rattle.tables.specs.declared.Refusal.{Refusal}
-use Rattle.tables.specs.declared.Verdict.{Verdict}
-use Rattle.tables.specs.declared.Verdict.the-variants.{Passed, Refused}
+use Rattle.checks.specs.Check.{Answer, done, refused}
+use Rattle.checks.specs.Table.{State}
 use Rattle.tables.specs.declared.CountAnswer.{CountAnswer}
 use Rattle.tables.specs.declared.CountAnswer.the-variants.{Counted, Refused as NotCounted}
 use Rattle.tables.specs.declared.RunAnswer.{RunAnswer}
 use Rattle.tables.specs.declared.RunAnswer.the-variants.{Done, Refused as NotRun}
 use Rattle.tables.specs.Run.{Ran, Count}
-use Rattle.tables.specs.Check.{Answer, done, refused, Check, verdict}
-use Rattle.tables.specs.Table.{State, Table}
-
-abbrev pub lent : List ℕ → List ℕ → List ℕ → List ℕ → List ℕ → Table
-lent widths locks masks values words = record { widths = widths; locks = locks; masks = masks; values = values; words = words }
-
-abbrev pub judged : List Check → Answer (Unit {0})
-judged cs = verdict cs tt
-
-abbrev pub meant : Verdict → Answer (Unit {0})
-meant Passed = done tt
-meant (Refused r) = refused (r .number) (r .place)
 
 abbrev pub countMeant : CountAnswer → Answer Count
 countMeant (Counted u choices) = done (record { unknown = u; choices = choices })

@@ -9,9 +9,9 @@ use mathlib.Core.List.{List}
 use Prim.Native.Nat.{ℕ, _-_, _^_}
 use Rattle.vectors.specs.Row.{unknowns}
 use Rattle.operations.specs.Record.{Effect, effectsOf}
-use Rattle.tables.specs.Check.{Answer, done, refused, verdict}
-use Rattle.tables.specs.Table.{State, rowAt, Table, startOf, recordCount, recordOf}
-use Rattle.tables.specs.Checks.{runChecks, countChecks}
+use Rattle.checks.specs.Check.{Answer, done, refused, verdict}
+use Rattle.checks.specs.Table.{State, rowAt, Table, startOf, recordCount, recordOf}
+use Rattle.checks.specs.Checks.{runChecks, countChecks}
 use Rattle.tables.specs.Step.{Program, after, plainAfter}
 
 abbrev pub effectsAt : Table → ℕ → List Effect

@@ -12,7 +12,7 @@ use lib.ListN.{getD, set}
 use Rattle.vectors.specs.Row.{Row}
 use Rattle.vectors.specs.Best.{best}
 use Rattle.operations.specs.Record.{Effect, widthAt}
-use Rattle.tables.specs.Table.{State, rowAt}
+use Rattle.checks.specs.Table.{State, rowAt}
 
 abbrev pub put : State → ℕ → Row → State
 put s i r = record { masks = set (s .masks) i (r .mask); values = set (s .values) i (r .value) }

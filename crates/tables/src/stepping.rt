@@ -5,16 +5,18 @@ ghost use Prim.Native.Nat.{_/_};
 ghost use lib.ListN.{length};
 ghost use Rattle.operations.specs.Kind.{Use};
 ghost use Rattle.operations.specs.Record.{effectsOf};
+ghost use Rattle.checks.specs.Meant.{lent};
+ghost use Rattle.checks.specs.Coded.{useCode};
 ghost use Rattle.tables.specs.Step.{after};
 ghost use Rattle.tables.specs.Step as Step;
 ghost use Rattle.tables.specs.Run.{programOf};
-ghost use Rattle.tables.specs.Meant.{lent, held};
-ghost use Rattle.tables.specs.Coded.{useCode, usedRow, StepReady, StretchReady};
-use crate::described::parameter_use;
-use crate::described::second_use;
-use crate::limits::RECORD_WORDS;
-use crate::records::index;
-use crate::rows::wide;
+ghost use Rattle.tables.specs.Meant.{held};
+ghost use Rattle.tables.specs.Coded.{usedRow, StepReady, StretchReady};
+use checks::described::parameter_use;
+use checks::described::second_use;
+use checks::limits::RECORD_WORDS;
+use checks::records::index;
+use checks::rows::wide;
 
 // The row that a word names, 0 where it names none.
 fn used_row(code: u8, word: u32) -> usize

@@ -13,8 +13,8 @@ use lib.ListN.{length, getD, take, drop, length-drop}
 use lib.Seq.{getD-take, getD-drop, length-take-le}
 use Rattle.operations.specs.Limits.{recordWords}
 use Rattle.operations.specs.Record.{kindWord}
-use Rattle.tables.specs.Table.{Table, recordOf}
-use Rattle.tables.specs.Meant.{lent}
+use Rattle.checks.specs.Table.{Table, recordOf}
+use Rattle.checks.specs.Meant.{lent}
 use Rattle.grammar.specs.Lists.{listed}
 use Rattle.grammar.specs.Print.{Line, rowLine, recordLine, lineText, linesText, lineRow, rowLines, recordLines}
 use Rattle.lines.proofs.KindNames.{kind-below}

@@ -13,9 +13,9 @@ use lib.ListN.{length, drop, length-map}
 use lib.Seq.{sets, sets-eq}
 use borrow.Author.Tests.{eq-eqb, ne-eqb, lt-ltb, le-ltb}
 use Rattle.operations.specs.Limits.{recordWords}
-use Rattle.tables.specs.Check.{Answer, done, refused, verdict}
-use Rattle.tables.specs.Table.{Table}
-use Rattle.tables.specs.Checks.{locksDiffer, masksDiffer, valuesDiffer}
+use Rattle.checks.specs.Check.{Answer, done, refused, verdict}
+use Rattle.checks.specs.Table.{Table}
+use Rattle.checks.specs.Checks.{locksDiffer, masksDiffer, valuesDiffer}
 use Rattle.grammar.specs.Limits.{textLimit}
 use Rattle.grammar.specs.Lists.{filled}
 use Rattle.grammar.specs.Print.{LineRow}

@@ -10,9 +10,9 @@ use lib.Dec.{T, eqb, eqb→eq, nltb→le}
 use lib.Arith.{le→nltb}
 use lib.ListN.{length}
 use Rattle.bits.proofs.Bools.{eq→eqb, T-not-not, not-not-T}
-use Rattle.tables.specs.Check.{Answer, done, refused, verdict, Passed}
-use Rattle.tables.specs.Table.{Table}
-use Rattle.tables.proofs.Verdicts.{done-of-passed, passed-of-done}
+use Rattle.checks.specs.Check.{Answer, done, refused, verdict, Passed}
+use Rattle.checks.specs.Table.{Table}
+use Rattle.checks.proofs.Verdicts.{done-of-passed, passed-of-done}
 use Rattle.grammar.specs.Limits.{textLimit}
 use Rattle.grammar.specs.Lines.{tableRead}
 use Rattle.texts.specs.Calls.{badLine, readChecks, Counts, countsOf, readAs, filledWith, readOf}

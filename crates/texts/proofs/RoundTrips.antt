@@ -14,12 +14,12 @@ use lib.ListN.{length, take, length-map}
 use lib.Seq.{take-at}
 use Rattle.operations.specs.Limits.{recordWords}
 use Rattle.operations.specs.Record.{fault}
-use Rattle.tables.specs.Check.{Answer, done, refused, verdict, Passed, placed}
-use Rattle.tables.specs.Table.{Table, recordCount}
-use Rattle.tables.specs.Checks.{sizeBound, bufferShort, sizeChecks, writeChecks}
-use Rattle.tables.specs.Accepted.{TablePassed}
-use Rattle.tables.proofs.Verdicts.{passed-append, passed-left, passed-right, done-of-passed, passed-of-done}
-use Rattle.tables.proofs.Accepts.{passed-of-table, table-of-passed, table-of-answer}
+use Rattle.checks.specs.Check.{Answer, done, refused, verdict, Passed, placed}
+use Rattle.checks.specs.Table.{Table, recordCount}
+use Rattle.checks.specs.Checks.{sizeBound, bufferShort, sizeChecks, writeChecks}
+use Rattle.checks.specs.Accepted.{TablePassed}
+use Rattle.checks.proofs.Verdicts.{passed-append, passed-left, passed-right, done-of-passed, passed-of-done}
+use Rattle.checks.proofs.Accepts.{passed-of-table, table-of-passed, table-of-answer}
 use Rattle.grammar.specs.Lists.{filled}
 use Rattle.grammar.specs.Print.{LineRow, textOf}
 use Rattle.grammar.specs.Lines.{linesIn, rowsIn, tableIn, tableRead}

@@ -7,9 +7,9 @@ use Prim.Native.Nat.{ℕ, _+_, _*_, _≤_}
 use native.Mathlib.Omega.{arith}
 use lib.ListN.{length, take, drop, length-append, length-map}
 use Rattle.operations.specs.Limits.{recordWords}
-use Rattle.tables.specs.Check.{done, refused}
-use Rattle.tables.specs.Table.{Table}
-use Rattle.tables.specs.declared.Refusal.{Refusal}
+use Rattle.checks.specs.Check.{done, refused}
+use Rattle.checks.specs.Table.{Table}
+use Rattle.checks.specs.declared.Refusal.{Refusal}
 use Rattle.grammar.specs.Lists.{filled}
 use Rattle.grammar.specs.Print.{LineRow, textOf}
 use Rattle.grammar.specs.Lines.{linesIn, rowsIn, tableIn, tableRead}

@@ -6,9 +6,9 @@ use Rattle.bits.specs.Bit.{bit}
 use Rattle.operations.specs.Moves.{opCopy, opNot, opAnd, opOr, opXor, opShl, opLshr, opAshr, opRotl, opExtract, opConcat, opZext, opSext}
 use Rattle.operations.specs.Arithmetic.{opAdd, opSub, opNeg, opMul, opEq, opUlt, opSlt, opIte}
 use Rattle.operations.specs.Kinds.{kinds, kindOf}
-use Rattle.tables.specs.Check.{done, refused, verdict}
-use Rattle.tables.specs.Table.{Table}
-use Rattle.tables.specs.Meant.{lent}
+use Rattle.checks.specs.Check.{done, refused, verdict}
+use Rattle.checks.specs.Table.{Table}
+use Rattle.checks.specs.Meant.{lent}
 use Rattle.grammar.specs.Lists.{allOf, same, listed}
 use Rattle.operations.specs.Kind.{bytes}
 use Rattle.grammar.specs.Print.{digits, decimal, lettersOf, fieldsOf, joined, lineText, linesText, tableLines, textOf}

@@ -12,16 +12,16 @@ use lib.ListN.{length, drop, length-append}
 use lib.Seq.{sets, sets-eq}
 use borrow.Author.Tests.{lt-ltb}
 use Rattle.operations.specs.Record.{fault}
-use Rattle.tables.specs.Check.{Answer, done, refused, verdict, placed}
-use Rattle.tables.specs.Table.{Table}
-use Rattle.tables.specs.Checks.{sizeBound, bufferShort, sizeChecks, writeChecks}
-use Rattle.tables.specs.Accepted.{TablePassed}
-use Rattle.tables.specs.Meant.{judged, meant}
-use Rattle.tables.specs.declared.Refusal.{Refusal}
-use Rattle.tables.specs.declared.Verdict.{Verdict}
-use Rattle.tables.specs.declared.Verdict.the-variants.{Passed, Refused}
-use Rattle.tables.proofs.Verdicts.{verdict-passed, verdict-refused}
-use Rattle.tables.proofs.Accepts.{passed-of-table, table-of-answer, answer-of-table}
+use Rattle.checks.specs.Check.{Answer, done, refused, verdict, placed}
+use Rattle.checks.specs.Table.{Table}
+use Rattle.checks.specs.Checks.{sizeBound, bufferShort, sizeChecks, writeChecks}
+use Rattle.checks.specs.Accepted.{TablePassed}
+use Rattle.checks.specs.Meant.{judged, meant}
+use Rattle.checks.specs.declared.Refusal.{Refusal}
+use Rattle.checks.specs.declared.Verdict.{Verdict}
+use Rattle.checks.specs.declared.Verdict.the-variants.{Passed, Refused}
+use Rattle.checks.proofs.Verdicts.{verdict-passed, verdict-refused}
+use Rattle.checks.proofs.Accepts.{passed-of-table, table-of-answer, answer-of-table}
 use Rattle.grammar.specs.Lists.{filled}
 use Rattle.grammar.specs.Print.{linesText, rowLines, recordLines, tableLines, textOf}
 use Rattle.texts.specs.Calls.{sizeOf, writtenAs, writeOf}

@@ -13,9 +13,9 @@ use Prim.Native.Nat.{ℕ}
 use lib.Dec.{ltb, eqb}
 use lib.ListN.{length}
 use Rattle.operations.specs.Record.{fault}
-use Rattle.tables.specs.Check.{Answer, done, refused, Check, verdict, placed}
-use Rattle.tables.specs.Table.{Table, recordCount}
-use Rattle.tables.specs.Checks.{sizeBound, sizeChecks, writeChecks, locksDiffer, masksDiffer, valuesDiffer}
+use Rattle.checks.specs.Check.{Answer, done, refused, Check, verdict, placed}
+use Rattle.checks.specs.Table.{Table, recordCount}
+use Rattle.checks.specs.Checks.{sizeBound, sizeChecks, writeChecks, locksDiffer, masksDiffer, valuesDiffer}
 use Rattle.grammar.specs.Limits.{textLimit}
 use Rattle.grammar.specs.Lists.{filled}
 use Rattle.grammar.specs.Print.{textOf}

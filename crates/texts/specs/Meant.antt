@@ -3,8 +3,8 @@
 --   readMeant    of read's answer;   readLeft r slices   that answer, and the slices at exit
 use mathlib.Core.List.{List}
 use Prim.Native.Nat.{ℕ}
-use Rattle.tables.specs.Check.{Answer, done, refused}
-use Rattle.tables.specs.Table.{Table}
+use Rattle.checks.specs.Check.{Answer, done, refused}
+use Rattle.checks.specs.Table.{Table}
 use Rattle.texts.specs.Calls.{Written, Counts, ReadBack}
 use Rattle.texts.specs.declared.BytesAnswer.{BytesAnswer}
 use Rattle.texts.specs.declared.BytesAnswer.the-variants.{Bytes, Refused as NotBytes}

@@ -9,9 +9,9 @@ use lib.ListN.{length, getD}
 use Rattle.operations.specs.Limits.{recordWords}
 use Rattle.operations.specs.Kinds.{isKind}
 use Rattle.operations.specs.Record.{kindWord}
-use Rattle.tables.specs.Limits.{widthLimit}
-use Rattle.tables.specs.Table.{recordCount, recordOf}
-use Rattle.tables.specs.Meant.{lent}
+use Rattle.checks.specs.Limits.{widthLimit}
+use Rattle.checks.specs.Table.{recordCount, recordOf}
+use Rattle.checks.specs.Meant.{lent}
 
 pub record RowsFit (ws ls ms vs : List ℕ) : Type 0 where
   pub locks-length : length ls ≡ length ws

@@ -8,8 +8,8 @@ use mathlib.Core.List.{List}
 use Prim.Native.Nat.{ℕ, _*_, _≤_}
 use lib.ListN.{length, take}
 use Rattle.operations.specs.Limits.{recordWords}
-use Rattle.tables.specs.Check.{done}
-use Rattle.tables.specs.Table.{Table}
+use Rattle.checks.specs.Check.{done}
+use Rattle.checks.specs.Table.{Table}
 use Rattle.grammar.specs.Lists.{filled}
 use Rattle.texts.specs.Calls.{Written, writeOf, Counts, countsOf, ReadBack, filledWith, readOf}
 

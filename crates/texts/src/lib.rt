@@ -1,11 +1,15 @@
 // The text of a table: size, write, read and field (01, "Calls" and "Text").
 ghost use mathlib.Core.Path.{_≡_};
 ghost use denote.Ref.{ptr};
-ghost use Rattle.tables.specs.Meant.{lent};
+ghost use Rattle.checks.specs.Meant.{lent};
 ghost use Rattle.grammar.specs.Cut.{fieldOf};
 ghost use Rattle.texts.specs.Calls.{sizeOf, writeOf, readOf};
 ghost use Rattle.lines.specs.Meant.{lies};
 ghost use Rattle.texts.specs.Meant.{bytesMeant, writeLeft, readLeft};
+use checks::Refusal;
+use checks::Verdict;
+use checks::check_table;
+use checks::limits::RECORD_WORDS;
 use fill::fill_records;
 use fill::fill_rows;
 use fill::survey;
@@ -17,10 +21,6 @@ use lines::cut::TAB;
 use lines::cut::part;
 use print::put_records;
 use print::put_rows;
-use tables::Refusal;
-use tables::Verdict;
-use tables::check_table;
-use tables::limits::RECORD_WORDS;
 
 mod fill; // fill.rt: the two passes of read
 mod limits; // limits.rt: numbers that 01 sets

@@ -1,13 +1,13 @@
 // Writing the lines of a table into a lent buffer (01, "Text": all row lines, then record lines).
 ghost use mathlib.Core.Path.{_≡_};
 ghost use mathlib.Core.List.{[]};
-ghost use Rattle.tables.specs.Meant.{lent};
+ghost use Rattle.checks.specs.Meant.{lent};
 ghost use Rattle.grammar.specs.Print.{linesText, rowLines, recordLines};
 ghost use Rattle.lines.specs.Put.{Holds, Put};
 ghost use Rattle.texts.specs.Print.{RowsFit, RecordsFit};
+use checks::limits::RECORD_WORDS;
 use lines::put::put_record;
 use lines::put::put_row;
-use tables::limits::RECORD_WORDS;
 
 fn wide(b: u8) -> u32
     ensures { λ r. ⌜ r ≡ b ⌝ }

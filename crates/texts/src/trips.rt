@@ -1,12 +1,12 @@
 // The round trips through the text over the calls themselves (demand 2): each contract is the round trip.
-ghost use Rattle.tables.specs.Meant.{lent};
+ghost use Rattle.checks.specs.Meant.{lent};
 ghost use Rattle.texts.specs.Trips.{TableBack, BytesBack};
 ghost use Rattle.texts.specs.Meant.{writeLeft, readLeft};
 use crate::BytesAnswer;
 use crate::ReadAnswer;
 use crate::read;
 use crate::write;
-use tables::limits::RECORD_WORDS;
+use checks::limits::RECORD_WORDS;
 
 // A table that is written into `out` is read back from there into other slices.
 fn write_then_read(

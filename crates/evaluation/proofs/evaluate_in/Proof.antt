@@ -2,7 +2,7 @@
 use mathlib.Core.Path.{_≡_, refl, sym, ap, _∙_}
 use native.Mathlib.Omega.{arith}
 use lib.Seq.{length-take-le}
-use Rattle.tables.specs.Meant.{lent}
+use Rattle.checks.specs.Meant.{lent}
 use Rattle.texts.specs.Calls.{readOf}
 use Rattle.texts.specs.Meant.{readLeft}
 use Rattle.texts.specs.declared.ReadAnswer.{ReadAnswer}

@@ -1,6 +1,7 @@
 -- `evaluation::print_table` meets its contract: run, then the table's text or the refusal's line. Assumes nothing.
 use mathlib.Core.Path.{_≡_, sym, ap, _∙_}
-use Rattle.tables.specs.Meant.{lent, held, ran}
+use Rattle.checks.specs.Meant.{lent}
+use Rattle.tables.specs.Meant.{held, ran}
 use Rattle.tables.specs.declared.RunAnswer.{RunAnswer}
 use Rattle.texts.specs.Meant.{writeLeft}
 use Rattle.texts.specs.declared.BytesAnswer.{BytesAnswer}

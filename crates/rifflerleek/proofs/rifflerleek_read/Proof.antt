@@ -1,7 +1,7 @@
 -- `rifflerleek::rifflerleek_read` meets its contract: what read answers and leaves, in the host's struct. Assumes nothing.
 use borrow.Author.Needs.{needs}
 use mathlib.Core.Path.{_≡_, sym, ap, _∙_}
-use Rattle.tables.specs.Meant.{lent}
+use Rattle.checks.specs.Meant.{lent}
 use Rattle.texts.specs.declared.ReadAnswer.{ReadAnswer}
 use Rattle.texts.specs.Meant.{readLeft}
 use Rattle.rifflerleek.specs.declared.Answer.{Answer}

@@ -1,7 +1,7 @@
 -- `rifflerleek::rifflerleek_run` meets its contract: what run answers and leaves, in the host's struct. Assumes nothing.
 use borrow.Author.Needs.{needs}
+use Rattle.checks.specs.Meant.{lent}
 use Rattle.tables.specs.declared.RunAnswer.the-variants.{Done, Refused}
-use Rattle.tables.specs.Meant.{lent}
 use Rattle.rifflerleek.proofs.Runs.{run-hosted}
 use Rattle.rifflerleek.proofs.rifflerleek_run.Statement.{statement}
 use Rattle.rifflerleek.proofs.rifflerleek_run.Tie as tie

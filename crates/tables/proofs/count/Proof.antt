@@ -2,10 +2,12 @@
 use mathlib.Core.Path.{_≡_, sym, ap, _∙_}
 use mathlib.Core.List.{[]}
 use native.Mathlib.Omega.{arith}
-use Rattle.tables.specs.Checks.{countChecks}
+use Rattle.checks.specs.Checks.{countChecks}
+use Rattle.checks.specs.Meant.{lent, meant}
+use Rattle.checks.proofs.Verdicts.{refused-any}
+use Rattle.checks.proofs.Counts.{row-in, row-slices}
 use Rattle.tables.specs.Run.{countOf}
-use Rattle.tables.specs.Meant.{lent, meant}
-use Rattle.tables.proofs.Counts.{refused-any, row-in, row-slices, count-small, count-is}
+use Rattle.tables.proofs.Counts.{count-small, count-is}
 use borrow.Author.Needs.{needs}
 use Rattle.tables.proofs.count.Statement.{statement}
 use Rattle.tables.proofs.count.Tie as tie

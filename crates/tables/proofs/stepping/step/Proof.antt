@@ -3,8 +3,8 @@ use mathlib.Core.Path.{_≡_, sym, ap, _∙_}
 use Prim.Native.Nat.{ℕ}
 use native.Mathlib.Omega.{arith}
 use Rattle.operations.specs.Kinds.{kindOf}
+use Rattle.checks.specs.Coded.{useCode}
 use Rattle.tables.specs.Meant.{held}
-use Rattle.tables.specs.Coded.{useCode}
 use Rattle.tables.proofs.StepLaws.{kind-in, first-in, second-in, condition-in, code-ready, code-step}
 use borrow.Author.Needs.{needs}
 use Rattle.tables.proofs.stepping.step.Statement.{statement}

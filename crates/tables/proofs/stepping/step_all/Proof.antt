@@ -5,9 +5,10 @@ use mathlib.Core.Path.{_≡_, refl, sym, ap, _∙_, subst}
 use mathlib.Core.List.{List, [], _∷_}
 use Prim.Native.Nat.{ℕ, suc, _+_, _-_, _*_, _/_, _≤_}
 use lib.ListN.{length, getD}
+use Rattle.checks.specs.Meant.{lent}
 use Rattle.tables.specs.Step.{after}
 use Rattle.tables.specs.Run.{programOf}
-use Rattle.tables.specs.Meant.{lent, held}
+use Rattle.tables.specs.Meant.{held}
 use Rattle.tables.proofs.StretchLaws.{at-fits, turn-ready, turn-next}
 use Rattle.tables.proofs.stepping.step_all.Statement.{statement}
 use Rattle.tables.proofs.stepping.step_all.Tie as tie

@@ -1,7 +1,7 @@
 -- `texts::trips::write_then_read`: what write leaves is what read is given. Assumes nothing.
 use mathlib.Core.Path.{sym}
 use lib.Seq.{length-take-le}
-use Rattle.tables.specs.Meant.{lent}
+use Rattle.checks.specs.Meant.{lent}
 use Rattle.texts.specs.Meant.{readLeft}
 use Rattle.texts.proofs.TripCalls.{write-room, not-written, table-trip}
 use borrow.Author.Needs.{needs}

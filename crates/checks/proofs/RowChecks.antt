@@ -1,0 +1,100 @@
+-- A row's checks 4 and 5, and a record's checks 6 to 9, passed: what that gives, both ways. Assumes nothing.
+use mathlib.Core.Path.{_≡_, refl, sym, ap, _∙_}
+use mathlib.Core.Bool.{Bool, true, false, not}
+use mathlib.Core.List.{List, [], _∷_}
+use Prim.Native.Nat.{ℕ, _^_, _≤_, _<_}
+use native.Mathlib.Omega.{arith}
+use lib.Dec.{T, T-not, not-T, leb, ltb, eqb, nltb→le, nleb→lt, eqb→eq, leb→le}
+use lib.Arith.{le→nltb, lt→nleb}
+use lib.ListN.{length, getD}
+use lib.Bits.{bitAnd}
+use Rattle.bits.proofs.Bools.{eq→eqb, T-not-not, not-not-T}
+use Rattle.vectors.specs.Lists.{Each}
+use Rattle.vectors.specs.Row.{WellFormed}
+use Rattle.vectors.proofs.Rows.{apart-of-and, and-of-apart}
+use Rattle.operations.specs.Kind.{Use, asRow, asNumber, unused}
+use Rattle.operations.specs.Kinds.{isKind}
+use Rattle.operations.specs.Record.{kindWord, targetWord, firstWord, secondWord, parameterWord, kindIn, widthAt, withRow, rowsNamed, outside, widthsFit, recordFaults}
+use Rattle.checks.specs.Check.{placed, Passed}
+use Rattle.checks.specs.Table.{Table, rowAt, startOf}
+use Rattle.checks.specs.Checks.{rowFaultsAt}
+use Rattle.checks.specs.Accepted.{RowPassed, RecordPassed}
+
+pub positive : (n : ℕ) → T (not (eqb n 0)) → 1 ≤ n
+positive n p = nleb→lt n 0 (not-T (leb n 0) (λ q. T-not (eqb n 0) p (eq→eqb (zero-of n (leb→le n 0 q)))))
+  where
+    zero-of : (n : ℕ) → n ≤ 0 → n ≡ 0
+    zero-of n h = omega arith
+
+pub not-zero : (n : ℕ) → 1 ≤ n → T (not (eqb n 0))
+not-zero n h = not-T (eqb n 0) (λ q. let e = eqb→eq n 0 q in omega arith)
+
+pub row-of-passed : (t : Table) (i j : ℕ) → Passed (placed j (rowFaultsAt t i)) → RowPassed t i
+row-of-passed t i j P =
+    record {
+      width-least = positive (widthAt (t .widths) i) (P .0);
+      width-most = nltb→le _ _ (P .1 .0);
+      lock-most = nltb→le _ _ (P .1 .1 .0);
+      formed = record {
+        mask-below = nleb→lt _ _ (P .1 .1 .1 .0);
+        value-below = nleb→lt _ _ (P .1 .1 .1 .1 .0);
+        apart = λ k. apart-of-and (getD (t .masks) i 0) (getD (t .values) i 0) k (eqb→eq _ _ (T-not-not (eqb (bitAnd (getD (t .masks) i 0) (getD (t .values) i 0)) 0) (P .1 .1 .1 .1 .1 .0)));
+      };
+    }
+
+pub passed-of-row : (t : Table) (i j : ℕ) → RowPassed t i → Passed (placed j (rowFaultsAt t i))
+passed-of-row t i j R = (
+  not-zero (widthAt (t .widths) i) (R .width-least),
+  (
+    le→nltb _ _ (R .width-most),
+    (
+      le→nltb _ _ (R .lock-most),
+      (
+        lt→nleb _ _ (R .formed .mask-below),
+        (
+          lt→nleb _ _ (R .formed .value-below),
+          (
+            not-not-T (eqb (bitAnd (getD (t .masks) i 0) (getD (t .values) i 0)) 0)
+                (eq→eqb (and-of-apart (widthAt (t .widths) i) (getD (t .masks) i 0) (getD (t .values) i 0) (R .formed .mask-below) (R .formed .value-below) (R .formed .apart))),
+            tt,
+          ),
+        ),
+      ),
+    ),
+  ),
+)
+
+-- ---- records
+
+row-in : (u : Use) (n word : ℕ) (rows : List ℕ) → T (not (outside n u word)) → Each (λ i. i < n) rows → Each (λ i. i < n) (withRow u word rows)
+row-in asRow n word rows p e = (nleb→lt n word p, e)
+row-in asNumber n word rows p e = e
+row-in unused n word rows p e = e
+
+not-outside : (u : Use) (n word : ℕ) (rows : List ℕ) → Each (λ i. i < n) (withRow u word rows) → T (not (outside n u word)) × Each (λ i. i < n) rows
+not-outside asRow n word rows e = (lt→nleb n word (e .0), e .1)
+not-outside asNumber n word rows e = (tt, e)
+not-outside unused n word rows e = (tt, e)
+
+pub record-of-passed : (widths words : List ℕ) (i : ℕ) → Passed (placed i (recordFaults widths words)) → RecordPassed widths words
+unfolding recordFaults rowsNamed
+record-of-passed widths words i P =
+    record {
+      kind-known = T-not-not (isKind (kindWord words)) (P .0);
+      target-in = nleb→lt (length widths) (targetWord words) (P .1 .0);
+      operands-in = row-in (kindIn words .use-a) (length widths) (firstWord words) _ (P .1 .1 .0)
+          (row-in (kindIn words .use-b) (length widths) (secondWord words) _ (P .1 .1 .1 .0)
+          (row-in (kindIn words .use-p) (length widths) (parameterWord words) [] (P .1 .1 .1 .1 .0) tt));
+      first-used = P .1 .1 .1 .1 .1 .0;
+      second-used = P .1 .1 .1 .1 .1 .1 .0;
+      parameter-used = P .1 .1 .1 .1 .1 .1 .1 .0;
+      widths-fit = T-not-not (widthsFit widths words) (P .1 .1 .1 .1 .1 .1 .1 .1 .0);
+    }
+
+pub passed-of-record : (widths words : List ℕ) (i : ℕ) → RecordPassed widths words → Passed (placed i (recordFaults widths words))
+unfolding recordFaults rowsNamed
+passed-of-record widths words i R =
+    let a = not-outside (kindIn words .use-a) (length widths) (firstWord words) _ (R .operands-in) in
+    let b = not-outside (kindIn words .use-b) (length widths) (secondWord words) _ (a .1) in
+    let p = not-outside (kindIn words .use-p) (length widths) (parameterWord words) [] (b .1) in
+    (not-not-T (isKind (kindWord words)) (R .kind-known), (lt→nleb (length widths) (targetWord words) (R .target-in), (a .0, (b .0, (p .0, (R .first-used, (R .second-used, (R .parameter-used, (not-not-T (widthsFit widths words) (R .widths-fit), tt)))))))))

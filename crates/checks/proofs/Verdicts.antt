@@ -1,0 +1,91 @@
+-- The first check that holds decides: laws of check lists. Assumes nothing.
+use mathlib.Core.Path.{_≡_, refl, sym, ap, _∙_, subst}
+use mathlib.Core.Bool.{Bool, true, false, not, cond}
+use mathlib.Core.List.{List, [], _∷_, _++_, append-nil}
+use Prim.Native.Nat.{ℕ, zero, suc, _+_, _<_}
+use native.Mathlib.Nat.{add-zero, zero-add, add-suc, suc-add}
+use native.Mathlib.Omega.{arith}
+use lib.Dec.{T}
+use Rattle.checks.specs.Check.{Answer, done, refused, Check, verdict, rising, Passed}
+
+pub passed-append : (cs ds : List Check) → Passed cs → Passed ds → Passed (cs ++ ds)
+passed-append [] ds p q = q
+passed-append (c ∷ cs) ds p q = (p .0, passed-append cs ds (p .1) q)
+
+pub passed-left : (cs ds : List Check) → Passed (cs ++ ds) → Passed cs
+passed-left [] ds p = tt
+passed-left (c ∷ cs) ds p = (p .0, passed-left cs ds (p .1))
+
+pub passed-right : (cs ds : List Check) → Passed (cs ++ ds) → Passed ds
+passed-right [] ds p = p
+passed-right (c ∷ cs) ds p = passed-right cs ds (p .1)
+
+from-intro : (f : ℕ → List Check) (i n : ℕ) → ((j : ℕ) → j < n → Passed (f (i + j))) → Passed (rising f i n)
+unfolding rising
+from-intro f i zero h = tt
+from-intro f i (suc n) h =
+    passed-append (f i) (rising f (suc i) n) (rw add-zero at (h 0 (omega arith)))
+    (from-intro f (suc i) n (λ j l. subst (λ (x : ℕ). Passed (f x)) (add-suc i j ∙ sym (suc-add i j)) (h (suc j) (omega arith))))
+
+from-elim : (f : ℕ → List Check) (i n : ℕ) → Passed (rising f i n) → (j : ℕ) → j < n → Passed (f (i + j))
+unfolding rising
+from-elim f i zero p j l = absurd (omega arith)
+from-elim f i (suc n) p zero l = rw add-zero (passed-left (f i) (rising f (suc i) n) p)
+from-elim f i (suc n) p (suc j) l =
+    subst (λ (x : ℕ). Passed (f x)) (suc-add i j ∙ sym (add-suc i j)) (from-elim f (suc i) n (passed-right (f i) (rising f (suc i) n) p) j (omega arith))
+
+pub rising-intro : (f : ℕ → List Check) (n : ℕ) → ((j : ℕ) → j < n → Passed (f j)) → Passed (rising f 0 n)
+rising-intro f n h = from-intro f 0 n (λ j l. subst (λ (x : ℕ). Passed (f x)) (sym (zero-add j)) (h j l))
+
+pub rising-elim : (f : ℕ → List Check) (n : ℕ) → Passed (rising f 0 n) → (j : ℕ) → j < n → Passed (f j)
+rising-elim f n p j l = subst (λ (x : ℕ). Passed (f x)) (zero-add j) (from-elim f 0 n p j l)
+
+-- ---- the verdict
+
+-- a condition that does not hold leaves the verdict to the rest
+passes : {A : Type 0} (b : Bool) (r rest : Answer A) → T (not b) → cond b r rest ≡ rest
+passes true r rest t = absurd t
+passes false r rest t = refl
+
+pub done-of-passed : {A : Type 0} (cs : List Check) (a : A) → Passed cs → verdict cs a ≡ done a
+unfolding verdict
+done-of-passed [] a p = refl
+done-of-passed {A} (c ∷ cs) a p = passes (c .fails) (refused (c .number) (c .place)) (verdict cs a) (p .0) ∙ done-of-passed cs a (p .1)
+
+pub passed-of-done : {A : Type 0} (cs : List Check) (a b : A) → verdict cs a ≡ done b → Passed cs
+unfolding verdict
+passed-of-done [] a b e = tt
+passed-of-done (c ∷ cs) a b e = go (c .fails) e (passed-of-done cs a b)
+  where
+    go : (f : Bool) → cond f (refused (c .number) (c .place)) (verdict cs a) ≡ done b → (verdict cs a ≡ done b → Passed cs) → T (not f) × Passed cs
+    go true u k = let z : _≡_ {A = ℕ} 0 1 = cc in absurd (omega arith)
+    go false u k = (tt, k u)
+
+-- checks that passed leave the verdict to those after them
+pub verdict-passed : {A : Type 0} (cs ds : List Check) (a : A) → Passed cs → verdict (cs ++ ds) a ≡ verdict ds a
+unfolding verdict
+verdict-passed [] ds a p = refl
+verdict-passed (c ∷ cs) ds a p = passes (c .fails) (refused (c .number) (c .place)) (verdict (cs ++ ds) a) (p .0) ∙ verdict-passed cs ds a (p .1)
+
+-- a refusal stands, whatever checks come after it and whatever the answer would have been
+pub verdict-refused : {A B : Type 0} (cs ds : List Check) (a : A) (b : B) (n i : ℕ) → verdict cs a ≡ refused n i → verdict (cs ++ ds) b ≡ refused n i
+unfolding verdict
+verdict-refused [] ds a b n i e = let z : _≡_ {A = ℕ} 0 1 = cc in absurd (omega arith)
+verdict-refused {A} {B} (c ∷ cs) ds a b n i e = go (c .fails) e (verdict-refused cs ds a b n i)
+  where
+    number-of : {C : Type 0} → Answer C → ℕ
+    number-of (done x) = 0
+    number-of (refused m j) = m
+
+    place-of : {C : Type 0} → Answer C → ℕ
+    place-of (done x) = 0
+    place-of (refused m j) = j
+
+    go : (f : Bool) → cond f (refused (c .number) (c .place)) (verdict cs a) ≡ refused n i
+        → (verdict cs a ≡ refused n i → verdict (cs ++ ds) b ≡ refused n i) → cond f (refused (c .number) (c .place)) (verdict (cs ++ ds) b) ≡ refused n i
+    go true u k = λ ι. refused (ap number-of u ι) (ap place-of u ι)
+    go false u k = k u
+
+-- a refusal does not depend on what the answer would have been
+pub refused-any : {A B : Type 0} (cs : List Check) (a : A) (b : B) (n i : ℕ) → verdict cs a ≡ refused n i → verdict cs b ≡ refused n i
+refused-any cs a b n i e = ap (λ (l : List Check). verdict l b) (sym (append-nil cs)) ∙ verdict-refused cs [] a b n i e

@@ -1,0 +1,74 @@
+-- `checks::check_run` meets its contract: the first checks, the stretch, then rows and records. Assumes nothing.
+use mathlib.Core.Path.{_≡_, sym, ap, _∙_}
+use mathlib.Core.Bool.{true, false}
+use mathlib.Core.List.{List, [], _∷_, _++_}
+use lib.ListN.{length, getD}
+use Rattle.checks.specs.Check.{placed, verdict}
+use Rattle.checks.specs.Checks.{rowShapeFaults, wordFaults, stretchFaults, rowChecks, recordChecks, openChecks, sizeChecks, runChecks, countChecks}
+use Rattle.checks.specs.Meant.{lent, meant, judged}
+use Rattle.checks.specs.Coded.{recordsWith, headChecks, bodyChecks}
+use Rattle.checks.proofs.Verdicts.{passed-of-done, passed-left}
+use Rattle.checks.proofs.Walks.{goes-on, stops, slices-of-shape}
+use borrow.Author.Needs.{needs}
+use Rattle.checks.proofs.check_run.Statement.{statement}
+use Rattle.checks.proofs.check_run.Tie as tie
+
+check-head-requires : tie.Need-check-head-requires
+check-head-requires c κs = search needs
+
+enum-told : tie.Need-enum-told
+enum-told c = search needs
+
+returns : tie.Need-returns
+unfolding runChecks
+returns c =
+    let a = c .before .before .before .before .before .before .before .before .args in
+    ap meant (c .enum-told .given .1) ∙ sym (stops (c .before .before .check-head .result) (headChecks (lent (a .width .now) (a .lock .now) (a .mask .now) (a .value .now) (a .words .now))) (placed 0 (stretchFaults (lent (a .width .now) (a .lock .now) (a .mask .now) (a .value .now) (a .words .now)) (a .first) (a .last)) ++ bodyChecks true (lent (a .width .now) (a .lock .now) (a .mask .now) (a .value .now) (a .words .now))) (c .before .before .check-head .ensures) _ (c .enum-told .given .1))
+
+enum-told-2 : tie.Need-enum-told-2
+enum-told-2 c = search needs
+
+check-stretch-requires : tie.Need-check-stretch-requires
+check-stretch-requires c κs = search needs
+
+enum-told-3 : tie.Need-enum-told-3
+enum-told-3 c = search needs
+
+returns-2 : tie.Need-returns-2
+unfolding runChecks
+returns-2 c =
+    let a = c .before .before .before .before .before .before .before .before .before .before .before .args in
+    ap meant (c .enum-told3 .given .1)
+    ∙ sym (goes-on (c .before .before .before .before .before .check-head .result) (headChecks (lent (a .width .now) (a .lock .now) (a .mask .now) (a .value .now) (a .words .now))) (placed 0 (stretchFaults (lent (a .width .now) (a .lock .now) (a .mask .now) (a .value .now) (a .words .now)) (a .first) (a .last)) ++ bodyChecks true (lent (a .width .now) (a .lock .now) (a .mask .now) (a .value .now) (a .words .now))) (c .before .before .before .before .before .check-head .ensures) (c .before .before .before .enum-told2 .given .1)
+    ∙ stops (c .before .before .check-stretch .result) (placed 0 (stretchFaults (lent (a .width .now) (a .lock .now) (a .mask .now) (a .value .now) (a .words .now)) (a .first) (a .last))) (bodyChecks true (lent (a .width .now) (a .lock .now) (a .mask .now) (a .value .now) (a .words .now))) (c .before .before .check-stretch .ensures) _ (c .enum-told3 .given .1))
+
+enum-told-4 : tie.Need-enum-told-4
+enum-told-4 c = search needs
+
+check-body-requires : tie.Need-check-body-requires
+check-body-requires c κs =
+    let a = c .before .before .before .before .before .before .before .before .before .before .before .args in
+    slices-of-shape (lent (a .width .now) (a .lock .now) (a .mask .now) (a .value .now) (a .words .now)) (passed-left (placed 0 (rowShapeFaults (lent (a .width .now) (a .lock .now) (a .mask .now) (a .value .now) (a .words .now)))) (placed 0 (wordFaults (lent (a .width .now) (a .lock .now) (a .mask .now) (a .value .now) (a .words .now)))) (passed-of-done (headChecks (lent (a .width .now) (a .lock .now) (a .mask .now) (a .value .now) (a .words .now))) tt tt (sym (c .before .before .before .before .before .check-head .ensures) ∙ ap meant (c .before .before .before .enum-told2 .given .1))))
+
+returns-3 : tie.Need-returns-3
+unfolding runChecks
+returns-3 c =
+    let a = c .before .before .before .before .before .before .before .before .before .before .before .before .args in
+    c .check-body .ensures
+    ∙ sym (goes-on (c .before .before .before .before .before .before .check-head .result) (headChecks (lent (a .width .now) (a .lock .now) (a .mask .now) (a .value .now) (a .words .now))) (placed 0 (stretchFaults (lent (a .width .now) (a .lock .now) (a .mask .now) (a .value .now) (a .words .now)) (a .first) (a .last)) ++ bodyChecks true (lent (a .width .now) (a .lock .now) (a .mask .now) (a .value .now) (a .words .now))) (c .before .before .before .before .before .before .check-head .ensures) (c .before .before .before .before .enum-told2 .given .1)
+    ∙ goes-on (c .before .before .before .check-stretch .result) (placed 0 (stretchFaults (lent (a .width .now) (a .lock .now) (a .mask .now) (a .value .now) (a .words .now)) (a .first) (a .last))) (bodyChecks true (lent (a .width .now) (a .lock .now) (a .mask .now) (a .value .now) (a .words .now))) (c .before .before .before .check-stretch .ensures) (c .before .enum-told4 .given .1))
+
+pub check-run-spec : {M : Type 1} → statement M
+check-run-spec =
+    tie.close
+    (tie.spec
+    check-head-requires
+    enum-told
+    returns
+    enum-told-2
+    check-stretch-requires
+    enum-told-3
+    returns-2
+    enum-told-4
+    check-body-requires
+    returns-3)

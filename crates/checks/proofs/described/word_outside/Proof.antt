@@ -1,0 +1,21 @@
+-- `checks::described::word_outside` meets its contract, whatever the use that the code stands for. Assumes nothing.
+use mathlib.Core.Path.{_≡_, refl, sym, _∙_}
+use native.Mathlib.Omega.{arith}
+use borrow.Author.Tests.{le-leb, lt-leb}
+use Rattle.operations.specs.Kind.{Use, asRow, asNumber, unused}
+use Rattle.checks.specs.Coded.{useCode}
+use Rattle.checks.proofs.described.word_outside.Statement.{statement}
+use Rattle.checks.proofs.described.word_outside.Tie as tie
+
+returns : tie.Need-returns
+returns c asRow e = absurd (c .if1 .taken e)
+returns c asNumber e = refl
+returns c unused e = refl
+
+returns-2 : tie.Need-returns-2
+returns-2 c asRow e = refl
+returns-2 c asNumber e = absurd (let z = c .if1 .left in omega arith)
+returns-2 c unused e = absurd (let z = c .if1 .left in omega arith)
+
+pub word-outside-spec : {M : Type 1} → statement M
+word-outside-spec = tie.close (tie.spec returns returns-2)

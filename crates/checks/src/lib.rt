@@ -1,0 +1,193 @@
+// Tables: their checks.
+ghost use mathlib.Core.Path.{_≡_};
+ghost use mathlib.Core.List.{[]};
+ghost use lib.ListN.{length};
+ghost use Rattle.checks.specs.Check.{refused, placed};
+ghost use Rattle.checks.specs.Checks.{rowShapeFaults, wordFaults, stretchFaults, sizeChecks, runChecks, countChecks};
+ghost use Rattle.checks.specs.Coded.{RowSlices, headChecks, bodyChecks};
+ghost use Prim.Native.Nat.{_≤_};
+use limits::RECORD_LIMIT;
+use limits::RECORD_WORDS;
+use limits::ROW_LIMIT;
+use records::check_records;
+use rows::check_rows;
+ghost use Rattle.checks.specs.Meant.{lent, meant, judged};
+
+pub mod described; // described.rt: what each kind uses and asks of the widths
+pub mod limits; // limits.rt: numbers that 01 sets
+pub mod records; // records.rt: checks 6 to 10
+pub mod rows; // rows.rt: checks 4 and 5
+
+// A refusal holds its number and its place.
+pub struct Refusal {
+    pub number: u32,
+    pub place: usize,
+}
+
+// What checks find: nothing, or the first refusal.
+pub enum Verdict {
+    Passed,
+    Refused(Refusal),
+}
+
+// A refusal at a place.
+pub fn refuse(number: u32, place: usize) -> Verdict
+    ensures { λ r. ⌜ meant r ≡ refused number place ⌝ }
+{
+    Verdict::Refused(Refusal {
+        number: number,
+        place: place,
+    })
+}
+
+// Checks 1 and 2.
+pub fn check_shape(width: &[u8], lock: &[u8], mask: &[u32], value: &[u32]) -> Verdict
+    ensures { λ r. ⌜ meant r ≡ judged (placed 0 (rowShapeFaults (lent (now (width .entry)) (now (lock .entry)) (now (mask .entry)) (now (value .entry)) []))) ⌝ }
+{
+    let n = width.len();
+    if n == 0 {
+        return refuse(1, 0);
+    }
+    if ROW_LIMIT < n {
+        return refuse(1, 0);
+    }
+    if lock.len() != n {
+        return refuse(2, 0);
+    }
+    if mask.len() != n {
+        return refuse(2, 0);
+    }
+    if value.len() != n {
+        return refuse(2, 0);
+    }
+    Verdict::Passed
+}
+
+// Check 3, but for the stretch.
+pub fn check_words(words: &[u32]) -> Verdict
+    ensures { λ r. ⌜ meant r ≡ judged (placed 0 (wordFaults (lent [] [] [] [] (now (words .entry))))) ⌝ }
+{
+    if words.len() % RECORD_WORDS != 0 {
+        return refuse(3, 0);
+    }
+    if RECORD_LIMIT < words.len() / RECORD_WORDS {
+        return refuse(3, 0);
+    }
+    Verdict::Passed
+}
+
+// Checks 1 to 3, but for the stretch.
+fn check_head(width: &[u8], lock: &[u8], mask: &[u32], value: &[u32], words: &[u32]) -> Verdict
+    ensures { λ r. ⌜ meant r ≡ judged (headChecks (lent (now (width .entry)) (now (lock .entry)) (now (mask .entry)) (now (value .entry)) (now (words .entry)))) ⌝ }
+{
+    let shape = check_shape(width, lock, mask, value);
+    match shape {
+        Verdict::Refused(_) => {
+            return shape;
+        }
+        Verdict::Passed => {}
+    }
+    check_words(words)
+}
+
+// Checks 4 and 5 of the rows, then 6 to 9 of the records, and 10 where it is asked for.
+fn check_body(
+    locked: bool,
+    width: &[u8],
+    lock: &[u8],
+    mask: &[u32],
+    value: &[u32],
+    words: &[u32],
+) -> Verdict
+    requires { ⌜ (length (now width) ≤ 256) × RowSlices (now width) (now lock) (now mask) (now value) ⌝ }
+    ensures { λ r. ⌜ meant r ≡ judged (bodyChecks locked (lent (now (width .entry)) (now (lock .entry)) (now (mask .entry)) (now (value .entry)) (now (words .entry)))) ⌝ }
+{
+    let found = check_rows(width, lock, mask, value);
+    match found {
+        Verdict::Refused(_) => {
+            return found;
+        }
+        Verdict::Passed => {}
+    }
+    check_records(locked, width, lock, words)
+}
+
+// What size refuses.
+pub fn check_table(width: &[u8], lock: &[u8], mask: &[u32], value: &[u32], words: &[u32]) -> Verdict
+    ensures { λ r. ⌜ meant r ≡ judged (sizeChecks (lent (now (width .entry)) (now (lock .entry)) (now (mask .entry)) (now (value .entry)) (now (words .entry)))) ⌝ }
+{
+    let head = check_head(width, lock, mask, value, words);
+    match head {
+        Verdict::Refused(_) => {
+            return head;
+        }
+        Verdict::Passed => {}
+    }
+    check_body(false, width, lock, mask, value, words)
+}
+
+// Check 3, of the stretch.
+fn check_stretch(words: &[u32], first: usize, last: usize) -> Verdict
+    ensures { λ r. ⌜ meant r ≡ judged (placed 0 (stretchFaults (lent [] [] [] [] (now (words .entry))) first last)) ⌝ }
+{
+    if last < first {
+        return refuse(3, 0);
+    }
+    if words.len() / RECORD_WORDS < last {
+        return refuse(3, 0);
+    }
+    Verdict::Passed
+}
+
+// What run refuses.
+pub fn check_run(
+    width: &[u8],
+    lock: &[u8],
+    mask: &[u32],
+    value: &[u32],
+    words: &[u32],
+    first: usize,
+    last: usize,
+) -> Verdict
+    ensures { λ r. ⌜ meant r ≡ judged (runChecks (lent (now (width .entry)) (now (lock .entry)) (now (mask .entry)) (now (value .entry)) (now (words .entry))) first last) ⌝ }
+{
+    let head = check_head(width, lock, mask, value, words);
+    match head {
+        Verdict::Refused(_) => {
+            return head;
+        }
+        Verdict::Passed => {}
+    }
+    let stretch = check_stretch(words, first, last);
+    match stretch {
+        Verdict::Refused(_) => {
+            return stretch;
+        }
+        Verdict::Passed => {}
+    }
+    check_body(true, width, lock, mask, value, words)
+}
+
+// What count refuses.
+pub fn check_count(width: &[u8], lock: &[u8], mask: &[u32], value: &[u32], row: usize) -> Verdict
+    ensures { λ r. ⌜ meant r ≡ judged (countChecks (lent (now (width .entry)) (now (lock .entry)) (now (mask .entry)) (now (value .entry)) []) row) ⌝ }
+{
+    let shape = check_shape(width, lock, mask, value);
+    match shape {
+        Verdict::Refused(_) => {
+            return shape;
+        }
+        Verdict::Passed => {}
+    }
+    let found = check_rows(width, lock, mask, value);
+    match found {
+        Verdict::Refused(_) => {
+            return found;
+        }
+        Verdict::Passed => {}
+    }
+    if width.len() <= row {
+        return refuse(7, row);
+    }
+    Verdict::Passed
+}
