@@ -1,5 +1,6 @@
 -- The definitions of `bits`.
 pub mod Bit
 pub mod Below
+pub mod Counted
 pub mod Reversed
 pub mod Four

@@ -14,7 +14,7 @@ use Rattle.operations.specs.Kind.{Use, asRow, asNumber, unused, Kind}
 use Rattle.operations.specs.Moves.{opCopy, opNot, opAnd, opOr, opXor, opShl, opLshr, opAshr, opRotl, opExtract, opConcat, opZext, opSext}
 use Rattle.operations.specs.Arithmetic.{opAdd, opSub, opNeg, opMul, opEq, opUlt, opSlt, opIte}
 use Rattle.operations.specs.Kinds.{kinds, kindOf}
-use Rattle.operations.specs.Record.{widthAt, operandWords, rowsNamed, widthsFit}
+use Rattle.operations.specs.Record.{widthAt, operands, rowsNamed, widthsFit}
 use Rattle.operations.proofs.Lookup.{each-kind, kind-number, below-kind}
 use Rattle.checks.specs.Coded.{ruleOf, ruleCodes, usedWidth}
 
@@ -52,7 +52,7 @@ rule-of-kind n h =
 -- ---- a rule asks for the widths of the operand rows, in order, and for no more
 
 abbrev ByUse : Kind → Type 0
-ByUse k = (widths : List ℕ) (wt a b p : ℕ) → k .fits wt (map (widthAt widths) (operandWords k a b p)) p ≡ k .fits wt (widthAt widths a ∷ usedWidth widths (k .use-b) b ∷ usedWidth widths (k .use-p) p ∷ []) p
+ByUse k = (widths : List ℕ) (wt a b p : ℕ) → k .fits wt (map (widthAt widths) (operands k a b p)) p ≡ k .fits wt (widthAt widths a ∷ usedWidth widths (k .use-b) b ∷ usedWidth widths (k .use-p) p ∷ []) p
 
 by-use : Each ByUse kinds
 unfolding kinds opCopy opNot opAnd opOr opXor opShl opLshr opAshr opRotl opExtract opConcat opZext opSext opAdd opSub opNeg opMul opEq opUlt opSlt opIte

@@ -10,7 +10,7 @@ use native.Mathlib.Omega.{arith}
 use lib.ListN.{length, getD, take, drop, take-append-drop}
 use lib.Seq.{drop-cons, drop-drop, drop-length}
 use Rattle.vectors.specs.Lists.{Each}
-use Rattle.grammar.specs.Lists.{listed}
+use Rattle.bits.specs.Counted.{listed}
 use Rattle.grammar.specs.Print.{LineRow, Line, rowLine, recordLine}
 use Rattle.grammar.specs.Lines.{firstBad, rowsIn, wordsIn}
 

@@ -13,7 +13,7 @@ use Rattle.vectors.specs.Row.{row}
 use Rattle.vectors.specs.Lists.{Each}
 use Rattle.operations.specs.Limits.{recordWords}
 use Rattle.checks.specs.Table.{recordCount, recordOf}
-use Rattle.grammar.specs.Lists.{listed}
+use Rattle.bits.specs.Counted.{listed}
 use Rattle.grammar.specs.Words.{lf, tab, edition1}
 use Rattle.grammar.specs.Print.{LineRow, Line, rowLine, recordLine, outside, fieldsOf, joined, lineText, linesText, lineRow, rowLines, recordLines, tableLines, textOf}
 use Rattle.grammar.specs.Cut.{pieces}

@@ -18,7 +18,8 @@ use Rattle.checks.specs.Limits.{rowBytes, recordBytes}
 use Rattle.checks.specs.Table.{Table, recordCount, recordOf}
 use Rattle.checks.specs.Checks.{sizeBound}
 use Rattle.checks.specs.Accepted.{TablePassed}
-use Rattle.grammar.specs.Lists.{allOf, listed}
+use Rattle.bits.specs.Counted.{listed}
+use Rattle.grammar.specs.Lists.{allOf}
 use Rattle.grammar.specs.Words.{lf, tab, rowWord, opWord, lockWord}
 use Rattle.grammar.specs.Print.{decimal, lettersOf, LineRow, Line, rowLine, recordLine, fieldsOf, joined, lineText, linesText, lineRow, rowLines, recordLines, tableLines, textOf}
 use Rattle.grammar.proofs.Decimals.{length-small, length-two, length-three}

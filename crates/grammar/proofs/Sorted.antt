@@ -11,7 +11,7 @@ use lib.ListN.{length, take, drop, length-append}
 use lib.Seq.{take-at, drop-at}
 use Rattle.vectors.specs.Lists.{Each}
 use Rattle.operations.specs.Limits.{recordWords}
-use Rattle.grammar.specs.Lists.{listed}
+use Rattle.bits.specs.Counted.{listed}
 use Rattle.grammar.specs.Print.{LineRow, Line, rowLine, recordLine, outside}
 use Rattle.grammar.specs.Lines.{firstBad, rowsIn, wordsIn}
 use Rattle.grammar.proofs.LineBacks.{Shaped}

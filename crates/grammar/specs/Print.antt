@@ -16,7 +16,7 @@ use Rattle.bits.specs.Bit.{bit}
 use Rattle.vectors.specs.Row.{Row}
 use Rattle.operations.specs.Record.{kindIn}
 use Rattle.checks.specs.Table.{Table, rowAt, startOf, recordCount, recordOf}
-use Rattle.grammar.specs.Lists.{listed}
+use Rattle.bits.specs.Counted.{listed}
 use Rattle.grammar.specs.Words.{lf, tab, rowWord, opWord, lockWord, zeroByte, letter0, letter1, letterX}
 
 -- "A number is printed by recursion: its leading digits, then its last digit." The first argument bounds the count of digits.

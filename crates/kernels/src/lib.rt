@@ -9,7 +9,7 @@ ghost use Prim.Native.Nat.{_≤_, _<_};
 ghost use Rattle.vectors.specs.Row.{row};
 ghost use Rattle.operations.specs.Kinds.{kindOf};
 ghost use Rattle.operations.specs.Result.{resultOf, Ready};
-ghost use Rattle.kernels.specs.Operands.{operands};
+ghost use Rattle.operations.specs.Record.{operands};
 
 // The result of a kind over its operand rows, at target width wt and with parameter p. A row that the kind does not use counts for nothing;
 // the condition of ite is one bit wide.

@@ -1,7 +1,7 @@
 -- A record's words, its checks 6 to 10 and its effect, all from the kind's description (01, "Records" and "Who can cause a refusal").
 --   kindWord, targetWord, firstWord, secondWord, parameterWord   the five words of a record: kind, target row t, operand rows a and b, parameter p
 --   kindIn words     the record's kind
---   withRow u word rows, operandWords k a b p   of the words a, b and p those that the kind uses as rows, one by one
+--   used u a l, operands k a b p   of what stands for the words a, b and p that whose word the kind uses as a row, one by one
 --   rowsNamed words  the operand rows that the words a, b and p name, in that order
 --   widthAt widths i the width of row i
 --   Fault, fault b n   a condition, and the number of the refusal that it causes
@@ -41,16 +41,16 @@ widthAt widths i = getD widths i 0
 
 -- ---- the operand rows
 
-abbrev pub withRow : Use → ℕ → List ℕ → List ℕ
-withRow asRow word rows = word ∷ rows
-withRow asNumber word rows = rows
-withRow unused word rows = rows
+abbrev pub used : {A : Type 0} → Use → A → List A → List A
+used asRow a l = a ∷ l
+used asNumber a l = l
+used unused a l = l
 
-abbrev pub operandWords : Kind → ℕ → ℕ → ℕ → List ℕ
-operandWords k a b p = withRow (k .use-a) a (withRow (k .use-b) b (withRow (k .use-p) p []))
+abbrev pub operands : {A : Type 0} → Kind → A → A → A → List A
+operands k a b p = used (k .use-a) a (used (k .use-b) b (used (k .use-p) p []))
 
 unfoldable pub rowsNamed : List ℕ → List ℕ
-rowsNamed words = operandWords (kindIn words) (firstWord words) (secondWord words) (parameterWord words)
+rowsNamed words = operands (kindIn words) (firstWord words) (secondWord words) (parameterWord words)
 
 -- ---- the checks
 

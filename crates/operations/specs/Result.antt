@@ -14,7 +14,7 @@ use Rattle.vectors.specs.Lists.{Each, Along}
 use Rattle.vectors.specs.Row.{Row, WellFormed}
 use Rattle.vectors.specs.Best.{best}
 use Rattle.operations.specs.Kind.{Kind}
-use Rattle.operations.specs.Record.{operandWords, misused}
+use Rattle.operations.specs.Record.{operands, misused}
 
 abbrev pub Below : List ℕ → List ℕ → Type 0
 Below ws ns = Along (λ w n. n < 2 ^ w) ws ns
@@ -26,7 +26,7 @@ unfoldable pub resultOf : Kind → ℕ → ℕ → List Row → Row
 resultOf k wt p rows = best wt (k .plain wt (widthsOf rows) p) rows
 
 abbrev pub arity : Kind → ℕ
-arity k = length (operandWords k 0 0 0)
+arity k = length (operands {A = ℕ} k 0 0 0)
 
 pub record Ready (k : Kind) (wt p : ℕ) (rows : List Row) : Type 0 where
   pub count : length rows ≡ arity k

@@ -14,7 +14,7 @@ use Rattle.vectors.proofs.Rows.{covers-value}
 use Rattle.vectors.proofs.BestLaws.{best-known}
 use Rattle.operations.specs.Kind.{Use, asRow, asNumber, unused, Kind}
 use Rattle.operations.specs.Kinds.{isKind, kindOf}
-use Rattle.operations.specs.Record.{kindWord, targetWord, firstWord, secondWord, parameterWord, kindIn, widthAt, withRow, operandWords, rowsNamed, misused, widthsFit, Effect, effectOf, effectsOf}
+use Rattle.operations.specs.Record.{kindWord, targetWord, firstWord, secondWord, parameterWord, kindIn, widthAt, used, operands, rowsNamed, misused, widthsFit, Effect, effectOf, effectsOf}
 use Rattle.operations.specs.Result.{Below, arity}
 use Rattle.operations.specs.Bitvector.{nat}
 use Rattle.operations.specs.Terms.{Term, terms, vectors, Served, Agrees}

@@ -15,10 +15,9 @@ use Rattle.operations.specs.Kind.{Use, asRow, asNumber, unused, Kind}
 use Rattle.operations.specs.Moves.{opCopy, opNot, opAnd, opOr, opXor, opShl, opLshr, opAshr, opRotl, opExtract, opConcat, opZext, opSext}
 use Rattle.operations.specs.Arithmetic.{opAdd, opSub, opNeg, opMul, opEq, opUlt, opSlt, opIte}
 use Rattle.operations.specs.Kinds.{kinds, kindOf}
-use Rattle.operations.specs.Record.{widthAt, withRow, operandWords, rowsNamed, widthsFit, Effect, effectOf, effectsOf}
+use Rattle.operations.specs.Record.{widthAt, used, operands, rowsNamed, widthsFit, Effect, effectOf, effectsOf}
 use Rattle.operations.specs.Result.{widthsOf, resultOf, arity, Ready}
 use Rattle.operations.proofs.Lookup.{each-kind, kind-below, below-kind}
-use Rattle.kernels.specs.Operands.{used, operands}
 use Rattle.checks.specs.Limits.{widthLimit}
 use Rattle.checks.specs.Table.{State, rowAt}
 use Rattle.checks.proofs.Rules.{first-is-row}
@@ -34,7 +33,7 @@ isRow asNumber = false
 isRow unused = false
 
 abbrev OneBit : Kind → Type 0
-OneBit k = T (isRow (k .use-p)) → (widths : List ℕ) (wt a b p : ℕ) → T (k .fits wt (map (widthAt widths) (operandWords k a b p)) p) → widthAt widths p ≡ 1
+OneBit k = T (isRow (k .use-p)) → (widths : List ℕ) (wt a b p : ℕ) → T (k .fits wt (map (widthAt widths) (operands k a b p)) p) → widthAt widths p ≡ 1
 
 one-bit : Each OneBit kinds
 unfolding kinds opCopy opNot opAnd opOr opXor opShl opLshr opAshr opRotl opExtract opConcat opZext opSext opAdd opSub opNeg opMul opEq opUlt opSlt opIte
@@ -42,12 +41,12 @@ one-bit = (λ r. absurd r, (λ r. absurd r, (λ r. absurd r, (λ r. absurd r, (�
 
 -- ---- the rows that the words name
 
-used-in : (u : Use) (n word : ℕ) (rest : List ℕ) → 1 ≤ n → Each (λ i. i < n) (withRow u word rest) → (usedRow u word < n) × Each (λ i. i < n) rest
+used-in : (u : Use) (n word : ℕ) (rest : List ℕ) → 1 ≤ n → Each (λ i. i < n) (used u word rest) → (usedRow u word < n) × Each (λ i. i < n) rest
 used-in asRow n word rest h e = e
 used-in asNumber n word rest h e = (h, e)
 used-in unused n word rest h e = (h, e)
 
-used-map : (f : ℕ → Row) (u : Use) (word : ℕ) (r : Row) (rows : List Row) (rest : List ℕ) → (T (isRow u) → r ≡ f word) → rows ≡ map f rest → used u r rows ≡ map f (withRow u word rest)
+used-map : (f : ℕ → Row) (u : Use) (word : ℕ) (r : Row) (rows : List Row) (rest : List ℕ) → (T (isRow u) → r ≡ f word) → rows ≡ map f rest → used u r rows ≡ map f (used u word rest)
 used-map f asRow word r rows rest e g = let p = e tt in λ ι. p ι ∷ g ι
 used-map f asNumber word r rows rest e g = g
 used-map f unused word r rows rest e g = g
@@ -70,11 +69,11 @@ module _ (widths : List ℕ) (s : State) (kind t a b p : ℕ) (R : StepReady wid
   pub kind-in : kind < 21
   kind-in = kind-below kind (R .passed .kind-known)
 
-  first-part : (usedRow (kindOf kind .use-a) a < length widths) × Each (λ i. i < length widths) (withRow (kindOf kind .use-b) b (withRow (kindOf kind .use-p) p []))
+  first-part : (usedRow (kindOf kind .use-a) a < length widths) × Each (λ i. i < length widths) (used (kindOf kind .use-b) b (used (kindOf kind .use-p) p []))
   unfolding rowsNamed
   first-part = used-in (kindOf kind .use-a) (length widths) a _ (R .some-row) (R .passed .operands-in)
 
-  second-part : (ib < length widths) × Each (λ i. i < length widths) (withRow (kindOf kind .use-p) p [])
+  second-part : (ib < length widths) × Each (λ i. i < length widths) (used (kindOf kind .use-p) p [])
   second-part = used-in (kindOf kind .use-b) (length widths) b _ (R .some-row) (first-part .1)
 
   pub first-in : a < length widths
@@ -93,8 +92,8 @@ module _ (widths : List ℕ) (s : State) (kind t a b p : ℕ) (R : StepReady wid
   rows-are : given ≡ map (rowAt widths s) (rowsNamed words)
   unfolding rowsNamed
   rows-are =
-      used-map (rowAt widths s) (kindOf kind .use-a) a (rowAt widths s a) _ (withRow (kindOf kind .use-b) b (withRow (kindOf kind .use-p) p [])) (λ u. refl)
-      (used-map (rowAt widths s) (kindOf kind .use-b) b (rowAt widths s ib) _ (withRow (kindOf kind .use-p) p []) (λ u. ap (rowAt widths s) (used-same (kindOf kind .use-b) b u))
+      used-map (rowAt widths s) (kindOf kind .use-a) a (rowAt widths s a) _ (used (kindOf kind .use-b) b (used (kindOf kind .use-p) p [])) (λ u. refl)
+      (used-map (rowAt widths s) (kindOf kind .use-b) b (rowAt widths s ib) _ (used (kindOf kind .use-p) p []) (λ u. ap (rowAt widths s) (used-same (kindOf kind .use-b) b u))
       (used-map (rowAt widths s) (kindOf kind .use-p) p (row 1 (getD (s .masks) ip 0) (getD (s .values) ip 0)) [] [] condition refl))
     where
       condition : T (isRow (kindOf kind .use-p)) → row 1 (getD (s .masks) ip 0) (getD (s .values) ip 0) ≡ rowAt widths s p

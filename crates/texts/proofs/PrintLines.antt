@@ -15,7 +15,7 @@ use Rattle.operations.specs.Limits.{recordWords}
 use Rattle.operations.specs.Record.{kindWord}
 use Rattle.checks.specs.Table.{Table, recordOf}
 use Rattle.checks.specs.Meant.{lent}
-use Rattle.grammar.specs.Lists.{listed}
+use Rattle.bits.specs.Counted.{listed}
 use Rattle.grammar.specs.Print.{Line, rowLine, recordLine, lineText, linesText, lineRow, rowLines, recordLines}
 use Rattle.lines.proofs.KindNames.{kind-below}
 use Rattle.lines.proofs.PutLines.{rowText, recordText}

@@ -9,7 +9,8 @@ use Rattle.operations.specs.Kinds.{kinds, kindOf}
 use Rattle.checks.specs.Check.{done, refused, verdict}
 use Rattle.checks.specs.Table.{Table}
 use Rattle.checks.specs.Meant.{lent}
-use Rattle.grammar.specs.Lists.{allOf, same, listed}
+use Rattle.bits.specs.Counted.{listed}
+use Rattle.grammar.specs.Lists.{allOf, same}
 use Rattle.operations.specs.Kind.{bytes}
 use Rattle.grammar.specs.Print.{digits, decimal, lettersOf, fieldsOf, joined, lineText, linesText, tableLines, textOf}
 use Rattle.grammar.specs.Cut.{pieces, before, past, partEnds, fieldEnds, fieldOf}

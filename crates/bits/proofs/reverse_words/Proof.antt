@@ -2,12 +2,13 @@
 use borrow.Author.Needs.{needs}
 use mathlib.Core.Path.{refl}
 use Rattle.bits.specs.Bit.{bit, isSet, number}
+use Rattle.bits.specs.Counted.{listed}
 use Rattle.bits.specs.Reversed.{reversed, reversedBytes}
 use Rattle.bits.proofs.reverse_words.Statement.{statement}
 use Rattle.bits.proofs.reverse_words.Tie as tie
 
 reverse-each-requires : tie.Need-reverse-each-requires
-unfolding reversedBytes reversed number isSet bit
+unfolding reversedBytes listed reversed number isSet bit
 reverse-each-requires c κs = refl
 
 returns : tie.Need-returns

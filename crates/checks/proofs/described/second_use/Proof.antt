@@ -1,6 +1,7 @@
 -- `checks::described::second_use` meets its contract: the table computes to the list over the kinds. Assumes nothing.
 use borrow.Author.Needs.{needs}
 use Prim.Native.Nat.{ℕ}
+use Rattle.bits.specs.Counted.{listed}
 use Rattle.bits.proofs.Listed.{getD-listed}
 use Rattle.operations.specs.Moves.{opCopy, opNot, opAnd, opOr, opXor, opShl, opLshr, opAshr, opRotl, opExtract, opConcat, opZext, opSext}
 use Rattle.operations.specs.Arithmetic.{opAdd, opSub, opNeg, opMul, opEq, opUlt, opSlt, opIte}
@@ -13,7 +14,7 @@ array-read-result : tie.Need-array-read-result
 array-read-result c = search needs
 
 returns : tie.Need-returns
-unfolding kindOf kinds opCopy opNot opAnd opOr opXor opShl opLshr opAshr opRotl opExtract opConcat opZext opSext opAdd opSub opNeg opMul opEq opUlt opSlt opIte
+unfolding listed kindOf kinds opCopy opNot opAnd opOr opXor opShl opLshr opAshr opRotl opExtract opConcat opZext opSext opAdd opSub opNeg opMul opEq opUlt opSlt opIte
 returns c = getD-listed 21 (λ (n : ℕ). useCode (kindOf n .use-b)) (c .args .kind) (c .pre)
 
 pub second-use-spec : {M : Type 1} → statement M
