@@ -11,7 +11,8 @@ use Rattle.bits.specs.Below.{allBelow}
 use Rattle.bits.proofs.Below.{allBelow-elim}
 use Rattle.vectors.specs.Lists.{Each}
 use Rattle.operations.specs.Kind.{Use, asRow, asNumber, unused, Kind}
-use Rattle.operations.specs.Moves.{opCopy, opNot, opAnd, opOr, opXor, opShl, opLshr, opAshr, opRotl, opExtract, opConcat, opZext, opSext}
+use Rattle.operations.specs.Bitwise.{opCopy, opNot, opAnd, opOr, opXor}
+use Rattle.operations.specs.Moves.{opShl, opLshr, opAshr, opRotl, opExtract, opConcat, opZext, opSext}
 use Rattle.operations.specs.Arithmetic.{opAdd, opSub, opNeg, opMul, opEq, opUlt, opSlt, opIte}
 use Rattle.operations.specs.Kinds.{kinds, kindOf}
 use Rattle.operations.specs.Record.{widthAt, operands, rowsNamed, widthsFit}

@@ -6,7 +6,8 @@ use lib.Dec.{eqb}
 use Rattle.bits.proofs.Bools.{T-left}
 use Rattle.vectors.specs.Row.{row}
 use Rattle.operations.specs.Kind.{chosenWidths}
-use Rattle.operations.specs.Moves.{opCopy, opNot, opAnd, opOr, opXor, opShl, opLshr, opAshr, opRotl, opExtract, opConcat, opZext, opSext}
+use Rattle.operations.specs.Bitwise.{opCopy, opNot, opAnd, opOr, opXor}
+use Rattle.operations.specs.Moves.{opShl, opLshr, opAshr, opRotl, opExtract, opConcat, opZext, opSext}
 use Rattle.operations.specs.Arithmetic.{opAdd, opSub, opNeg, opMul, opEq, opUlt, opSlt, opIte}
 use Rattle.operations.specs.Kinds.{kinds, kindOf}
 use Rattle.operations.specs.Result.{resultOf}

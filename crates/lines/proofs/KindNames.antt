@@ -15,7 +15,8 @@ use Rattle.bits.specs.Below.{allBelow}
 use Rattle.bits.proofs.Bools.{T-left, T-right}
 use Rattle.bits.proofs.Below.{allBelow-elim}
 use Rattle.operations.specs.Kind.{Kind}
-use Rattle.operations.specs.Moves.{opCopy, opNot, opAnd, opOr, opXor, opShl, opLshr, opAshr, opRotl, opExtract, opConcat, opZext, opSext}
+use Rattle.operations.specs.Bitwise.{opCopy, opNot, opAnd, opOr, opXor}
+use Rattle.operations.specs.Moves.{opShl, opLshr, opAshr, opRotl, opExtract, opConcat, opZext, opSext}
 use Rattle.operations.specs.Arithmetic.{opAdd, opSub, opNeg, opMul, opEq, opUlt, opSlt, opIte}
 use Rattle.operations.specs.Kinds.{kinds, opNone, isKind, kindOf}
 use Rattle.grammar.specs.Lists.{allOf, same}

@@ -10,7 +10,7 @@ use Rattle.bits.specs.Bit.{bit}
 use Rattle.bits.proofs.Bits.{bit-and, bit-or, bit-xor}
 use Rattle.bits.proofs.Constants.{bit-ones, bit-complement}
 use Rattle.vectors.specs.Row.{row}
-use Rattle.operations.specs.Moves.{opNot, opAnd, opOr, opXor}
+use Rattle.operations.specs.Bitwise.{opNot, opAnd, opOr, opXor}
 use Rattle.operations.specs.Result.{resultOf, Ready}
 use Rattle.bits.proofs.Words.{bit-clear}
 use Rattle.logic.proofs.Operands.{chosen-at}

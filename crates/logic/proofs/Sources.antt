@@ -9,7 +9,8 @@ use lib.ListN.{getD}
 use Rattle.bits.specs.Bit.{bit}
 use Rattle.bits.proofs.Bits.{bit-above}
 use Rattle.bits.proofs.Shifts.{bit-div, bit-mod, bit-low, bit-high, bit-mul-low, bit-mul-high}
-use Rattle.operations.specs.Moves.{opCopy, opShl, opLshr, opAshr, opExtract, opConcat, opZext, opSext}
+use Rattle.operations.specs.Bitwise.{opCopy}
+use Rattle.operations.specs.Moves.{opShl, opLshr, opAshr, opExtract, opConcat, opZext, opSext}
 use Rattle.operations.proofs.Bounded.{below-at}
 use Rattle.operations.proofs.SmtBits.{bit-of}
 use Rattle.logic.proofs.Moving.{Moved}

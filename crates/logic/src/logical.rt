@@ -6,7 +6,7 @@ ghost use mathlib.Core.List.{[], _∷_};
 ghost use Prim.Native.Nat.{_≤_};
 ghost use Rattle.vectors.specs.Row.{row};
 ghost use Rattle.operations.specs.Result.{resultOf, Ready};
-ghost use Rattle.operations.specs.Moves.{opNot, opAnd, opOr, opXor};
+ghost use Rattle.operations.specs.Bitwise.{opNot, opAnd, opOr, opXor};
 
 // A bit is 1 where the operand's is known as 0: neither 1 nor unknown.
 pub fn not(w: u32, ma: u32, va: u32) -> Vector

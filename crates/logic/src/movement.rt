@@ -7,7 +7,8 @@ ghost use mathlib.Core.List.{[], _∷_};
 ghost use Prim.Native.Nat.{_^_, _≤_, _<_};
 ghost use Rattle.vectors.specs.Row.{row};
 ghost use Rattle.operations.specs.Result.{resultOf, Ready};
-ghost use Rattle.operations.specs.Moves.{opCopy, opShl, opLshr, opAshr, opRotl, opExtract, opConcat, opZext, opSext};
+ghost use Rattle.operations.specs.Bitwise.{opCopy};
+ghost use Rattle.operations.specs.Moves.{opShl, opLshr, opAshr, opRotl, opExtract, opConcat, opZext, opSext};
 
 pub fn copy(w: u32, ma: u32, va: u32) -> Vector
     requires { ⌜ (w ≤ 32) × Ready opCopy w 0 (row w ma va ∷ []) ⌝ }

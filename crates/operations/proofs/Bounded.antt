@@ -16,7 +16,8 @@ use Rattle.bits.proofs.Bits.{digit-lt, number-below}
 use Rattle.bits.proofs.Bools.{T-left, T-right}
 use Rattle.vectors.specs.Lists.{Each}
 use Rattle.operations.specs.Kind.{Kind, first, second, third}
-use Rattle.operations.specs.Moves.{opCopy, opNot, opAnd, opOr, opXor, opShl, opLshr, opAshr, opRotl, opExtract, opConcat, opZext, opSext}
+use Rattle.operations.specs.Bitwise.{opCopy, opNot, opAnd, opOr, opXor}
+use Rattle.operations.specs.Moves.{opShl, opLshr, opAshr, opRotl, opExtract, opConcat, opZext, opSext}
 use Rattle.operations.specs.Arithmetic.{opAdd, opSub, opNeg, opMul, opEq, opUlt, opSlt, opIte}
 use Rattle.operations.specs.Kinds.{kinds, find, kindOf}
 use Rattle.operations.specs.Result.{Below}

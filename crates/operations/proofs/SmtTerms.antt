@@ -11,7 +11,8 @@ use lib.Dec.{T, eqb, eqb→eq, nltb→le, ltb→lt, leb→le}
 use lib.ListN.{getD, drop}
 use Rattle.vectors.specs.Lists.{Each}
 use Rattle.operations.specs.Kind.{Kind}
-use Rattle.operations.specs.Moves.{opCopy, opNot, opAnd, opOr, opXor, opShl, opLshr, opAshr, opRotl, opExtract, opConcat, opZext, opSext}
+use Rattle.operations.specs.Bitwise.{opCopy, opNot, opAnd, opOr, opXor}
+use Rattle.operations.specs.Moves.{opShl, opLshr, opAshr, opRotl, opExtract, opConcat, opZext, opSext}
 use Rattle.operations.specs.Arithmetic.{opAdd, opSub, opNeg, opMul, opEq, opUlt, opSlt, opIte}
 use Rattle.operations.specs.Kinds.{kinds, numbered, find, isKind, kindOf}
 use Rattle.operations.specs.Limits.{parameterLimit}

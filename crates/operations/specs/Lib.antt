@@ -1,5 +1,6 @@
 pub mod Limits
 pub mod Kind
+pub mod Bitwise
 pub mod Moves
 pub mod Arithmetic
 pub mod Kinds

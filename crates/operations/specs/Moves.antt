@@ -1,76 +1,12 @@
--- Kinds 0 to 12: logic and movement (01, "Records" and "Points and plain runs"). Each kind is described here and nowhere else.
---   opCopy opNot opAnd opOr opXor opShl opLshr opAshr opRotl opExtract opConcat opZext opSext
+-- Kinds 5 to 12: movement (01, "Records" and "Points and plain runs"). Each kind is described here and nowhere else.
+--   opShl opLshr opAshr opRotl opExtract opConcat opZext opSext
 -- In a plain number, w is the width of the first operand, first ws, and a, b are the operands' numbers.
 use mathlib.Core.Bool.{_&&_}
 use Prim.Native.Nat.{ℕ, _+_, _-_, _*_, _/_, _%_, _^_, min}
 use lib.Dec.{eqb}
-use lib.Bits.{bitAnd, bitOr, bitXor}
 use Rattle.bits.specs.Bit.{isSet, number}
 use Rattle.bits.specs.Below.{someBelow}
-use Rattle.operations.specs.Kind.{bytes, asRow, asNumber, unused, Kind, first, second, sameWidth, sameWidths, takenWidth, joinedWidths, extendedWidth}
-
--- copy, zext: a
-unfoldable pub opCopy : Kind
-opCopy =
-    record {
-      number = 0;
-      name = bytes "copy";
-      use-a = asRow;
-      use-b = unused;
-      use-p = unused;
-      fits = sameWidth;
-      plain = λ wt ws p ns. first ns;
-    }
-
--- not: 2^w - 1 - a
-unfoldable pub opNot : Kind
-opNot =
-    record {
-      number = 1;
-      name = bytes "not";
-      use-a = asRow;
-      use-b = unused;
-      use-p = unused;
-      fits = sameWidth;
-      plain = λ wt ws p ns. 2 ^ first ws - 1 - first ns;
-    }
-
--- and, or, xor: bit by bit
-unfoldable pub opAnd : Kind
-opAnd =
-    record {
-      number = 2;
-      name = bytes "and";
-      use-a = asRow;
-      use-b = asRow;
-      use-p = unused;
-      fits = sameWidths;
-      plain = λ wt ws p ns. bitAnd (first ns) (second ns);
-    }
-
-unfoldable pub opOr : Kind
-opOr =
-    record {
-      number = 3;
-      name = bytes "or";
-      use-a = asRow;
-      use-b = asRow;
-      use-p = unused;
-      fits = sameWidths;
-      plain = λ wt ws p ns. bitOr (first ns) (second ns);
-    }
-
-unfoldable pub opXor : Kind
-opXor =
-    record {
-      number = 4;
-      name = bytes "xor";
-      use-a = asRow;
-      use-b = asRow;
-      use-p = unused;
-      fits = sameWidths;
-      plain = λ wt ws p ns. bitXor (first ns) (second ns);
-    }
+use Rattle.operations.specs.Kind.{bytes, asRow, asNumber, unused, Kind, first, second, sameWidth, takenWidth, joinedWidths, extendedWidth}
 
 -- shl: a · 2^p modulo 2^w. A shift by w or more gives zeros.
 unfoldable pub opShl : Kind
@@ -150,6 +86,7 @@ opConcat =
       plain = λ wt ws p ns. first ns * 2 ^ second ws + second ns;
     }
 
+-- zext: a
 unfoldable pub opZext : Kind
 opZext =
     record {

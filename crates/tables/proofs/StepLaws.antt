@@ -12,7 +12,8 @@ use Rattle.vectors.specs.Row.{Row, row, WellFormed}
 use Rattle.vectors.specs.Best.{best}
 use Rattle.vectors.proofs.Lists.{each-map}
 use Rattle.operations.specs.Kind.{Use, asRow, asNumber, unused, Kind}
-use Rattle.operations.specs.Moves.{opCopy, opNot, opAnd, opOr, opXor, opShl, opLshr, opAshr, opRotl, opExtract, opConcat, opZext, opSext}
+use Rattle.operations.specs.Bitwise.{opCopy, opNot, opAnd, opOr, opXor}
+use Rattle.operations.specs.Moves.{opShl, opLshr, opAshr, opRotl, opExtract, opConcat, opZext, opSext}
 use Rattle.operations.specs.Arithmetic.{opAdd, opSub, opNeg, opMul, opEq, opUlt, opSlt, opIte}
 use Rattle.operations.specs.Kinds.{kinds, kindOf}
 use Rattle.operations.specs.Record.{widthAt, used, operands, rowsNamed, widthsFit, Effect, effectOf, effectsOf}

@@ -3,7 +3,8 @@ use mathlib.Core.Path.{_≡_, refl}
 use mathlib.Core.List.{List, [], _∷_}
 use Prim.Native.Nat.{ℕ}
 use Rattle.bits.specs.Bit.{bit}
-use Rattle.operations.specs.Moves.{opCopy, opNot, opAnd, opOr, opXor, opShl, opLshr, opAshr, opRotl, opExtract, opConcat, opZext, opSext}
+use Rattle.operations.specs.Bitwise.{opCopy, opNot, opAnd, opOr, opXor}
+use Rattle.operations.specs.Moves.{opShl, opLshr, opAshr, opRotl, opExtract, opConcat, opZext, opSext}
 use Rattle.operations.specs.Arithmetic.{opAdd, opSub, opNeg, opMul, opEq, opUlt, opSlt, opIte}
 use Rattle.operations.specs.Kinds.{kinds, kindOf}
 use Rattle.checks.specs.Check.{done, refused, verdict}

@@ -1,5 +1,6 @@
 -- `lines::words::name_len`: the table computes to the lengths of the names. Assumes nothing.
-use Rattle.operations.specs.Moves.{opCopy, opNot, opAnd, opOr, opXor, opShl, opLshr, opAshr, opRotl, opExtract, opConcat, opZext, opSext}
+use Rattle.operations.specs.Bitwise.{opCopy, opNot, opAnd, opOr, opXor}
+use Rattle.operations.specs.Moves.{opShl, opLshr, opAshr, opRotl, opExtract, opConcat, opZext, opSext}
 use Rattle.operations.specs.Arithmetic.{opAdd, opSub, opNeg, opMul, opEq, opUlt, opSlt, opIte}
 use Rattle.operations.specs.Kinds.{kinds}
 use Rattle.lines.proofs.KindNames.{name-length-is}

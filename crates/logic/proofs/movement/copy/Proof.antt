@@ -1,6 +1,6 @@
 -- `logic::movement::copy` meets its contract, by the law of kernels that move bits. Assumes nothing.
 use mathlib.Core.Path.{refl}
-use Rattle.operations.specs.Moves.{opCopy}
+use Rattle.operations.specs.Bitwise.{opCopy}
 use Rattle.operations.specs.Kinds.{kinds}
 use Rattle.logic.proofs.Moving.{moving-result}
 use Rattle.logic.proofs.Sources.{copy-moved}
