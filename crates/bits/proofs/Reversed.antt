@@ -5,7 +5,7 @@ use native.Mathlib.Decide.{decLt}
 use native.Mathlib.Omega.{arith}
 use lib.Pow.{pow-add, high}
 use lib.Arith.{digits-lt}
-use Rattle.bits.specs.Bit.{bit, isSet}
+use Rattle.bits.specs.Bit.{bit}
 use Rattle.bits.specs.Reversed.{reversed}
 use Rattle.bits.proofs.Bits.{bit-ext, number-below, bit-number}
 use Rattle.bits.proofs.Shifts.{bit-div, bit-low, bit-high, bit-mod}

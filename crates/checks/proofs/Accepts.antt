@@ -1,20 +1,17 @@
 -- Acceptance: from the answer to the fields of Accepted and TablePassed, and back. Assumes nothing.
-use mathlib.Core.Path.{_≡_, refl, sym, ap, _∙_}
-use mathlib.Core.Logic.{_≢_}
-use mathlib.Core.Bool.{Bool, not}
-use mathlib.Core.List.{List, [], _∷_, _++_}
-use Prim.Native.Nat.{ℕ, _%_, _≤_, _<_}
-use native.Mathlib.Omega.{arith}
-use lib.Dec.{T, T-not, not-T, ltb, eqb, nltb→le, eqb→eq}
+use mathlib.Core.Path.{_≡_}
+use mathlib.Core.List.{List, _++_}
+use Prim.Native.Nat.{ℕ, _%_, _<_}
+use lib.Dec.{T-not, not-T, eqb, nltb→le, eqb→eq}
 use lib.Arith.{le→nltb}
-use lib.ListN.{length, getD}
+use lib.ListN.{length}
 use Rattle.bits.proofs.Bools.{eq→eqb, T-not-not, not-not-T}
 use Rattle.operations.specs.Limits.{recordWords}
-use Rattle.operations.specs.Record.{targetWord, targetLocked, recordFaults, lockFault}
-use Rattle.checks.specs.Check.{Answer, done, Check, placed, verdict, rising, Passed}
+use Rattle.operations.specs.Record.{targetLocked, recordFaults, lockFault}
+use Rattle.checks.specs.Check.{done, Check, placed, verdict, Passed}
 use Rattle.checks.specs.Table.{Table, recordCount, recordOf}
 use Rattle.checks.specs.Checks.{rowShapeFaults, wordFaults, stretchFaults, rowFaultsAt, rowChecks, recordChecks, openChecks, runChecks, sizeChecks}
-use Rattle.checks.specs.Accepted.{RowPassed, RecordPassed, TablePassed, Accepted}
+use Rattle.checks.specs.Accepted.{RecordPassed, TablePassed, Accepted}
 use Rattle.checks.proofs.Verdicts.{passed-append, passed-left, passed-right, rising-intro, rising-elim, done-of-passed, passed-of-done}
 use Rattle.checks.proofs.RowChecks.{row-of-passed, passed-of-row, record-of-passed, passed-of-record, positive, not-zero}
 

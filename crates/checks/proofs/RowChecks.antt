@@ -1,22 +1,21 @@
 -- A row's checks 4 and 5, and a record's checks 6 to 9, passed: what that gives, both ways. Assumes nothing.
-use mathlib.Core.Path.{_≡_, refl, sym, ap, _∙_}
-use mathlib.Core.Bool.{Bool, true, false, not}
-use mathlib.Core.List.{List, [], _∷_}
-use Prim.Native.Nat.{ℕ, _^_, _≤_, _<_}
+use mathlib.Core.Path.{_≡_}
+use mathlib.Core.Bool.{not}
+use mathlib.Core.List.{List, []}
+use Prim.Native.Nat.{ℕ, _≤_, _<_}
 use native.Mathlib.Omega.{arith}
-use lib.Dec.{T, T-not, not-T, leb, ltb, eqb, nltb→le, nleb→lt, eqb→eq, leb→le}
+use lib.Dec.{T, T-not, not-T, leb, eqb, nltb→le, nleb→lt, eqb→eq, leb→le}
 use lib.Arith.{le→nltb, lt→nleb}
 use lib.ListN.{length, getD}
 use lib.Bits.{bitAnd}
 use Rattle.bits.proofs.Bools.{eq→eqb, T-not-not, not-not-T}
 use Rattle.vectors.specs.Lists.{Each}
-use Rattle.vectors.specs.Row.{WellFormed}
 use Rattle.vectors.proofs.Rows.{apart-of-and, and-of-apart}
 use Rattle.operations.specs.Kind.{Use, asRow, asNumber, unused}
 use Rattle.operations.specs.Kinds.{isKind}
 use Rattle.operations.specs.Record.{kindWord, targetWord, firstWord, secondWord, parameterWord, kindIn, widthAt, used, rowsNamed, outside, widthsFit, recordFaults}
 use Rattle.checks.specs.Check.{placed, Passed}
-use Rattle.checks.specs.Table.{Table, rowAt, startOf}
+use Rattle.checks.specs.Table.{Table}
 use Rattle.checks.specs.Checks.{rowFaultsAt}
 use Rattle.checks.specs.Accepted.{RowPassed, RecordPassed}
 

@@ -10,10 +10,10 @@ use lib.Count.{leadingZeros, leading-length}
 use Rattle.bits.specs.Bit.{bit}
 use Rattle.bits.proofs.Bits.{bit-lt, bit-xor, bit-above, bit-ext}
 use Rattle.bits.proofs.Shifts.{bit-div}
-use Rattle.vectors.specs.Row.{row, Covers}
+use Rattle.vectors.specs.Row.{row}
 use Rattle.vectors.proofs.Rows.{value-least, top-greatest}
 use Rattle.vectors.proofs.Joins.{differ-cases}
-use Rattle.columns.specs.Settled.{Formed, KnownFrom}
+use Rattle.columns.specs.Settled.{KnownFrom}
 use Rattle.columns.proofs.ProductMask.{product-steady}
 
 -- an exact product of words fits a word twice as wide

@@ -1,6 +1,5 @@
 -- The word of the columns below one end and from another on. Assumes nothing.
-use mathlib.Core.Path.{_≡_, sym, ap, _∙_}
-use mathlib.Core.Logic.{inl, inr}
+use mathlib.Core.Path.{_≡_, ap, _∙_}
 use Prim.Native.Nat.{ℕ, _-_, _^_, _≤_, _<_, min}
 use native.Mathlib.Decide.{decLt}
 use native.Mathlib.Omega.{arith}
@@ -8,7 +7,7 @@ use lib.Pow.{pow-pos, pow-mono}
 use lib.Bits.{bitOr}
 use Rattle.bits.specs.Bit.{bit}
 use Rattle.bits.proofs.Constants.{bit-complement, bit-ones, bit-ones-above}
-use Rattle.columns.specs.Settled.{Formed, Column, KnownBelow, KnownFrom, AllKnown}
+use Rattle.columns.specs.Settled.{Column, KnownBelow, KnownFrom, AllKnown}
 use Rattle.columns.proofs.Marked.{marks-or}
 
 -- the ones below an end

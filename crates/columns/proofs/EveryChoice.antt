@@ -1,24 +1,24 @@
 -- Every choice of the unknown bits, those of the first operand in the low half of a word, tried from the greatest down. Assumes nothing.
 --   joined mb ma                 the unknown bits of both operands
 --   Tried p va vb all found s    found has the columns in which some choice above s differs from the plain product p
-use mathlib.Core.Path.{_≡_, refl, sym, ap, ap₂, subst, _∙_}
-use mathlib.Core.Logic.{_⊎_, inl, inr}
-use Prim.Native.Nat.{ℕ, zero, suc, _+_, _-_, _*_, _/_, _%_, _^_, _≤_, _<_, max}
+use mathlib.Core.Path.{_≡_, sym, ap, ap₂, _∙_}
+use mathlib.Core.Logic.{inl, inr}
+use Prim.Native.Nat.{ℕ, zero, suc, _+_, _-_, _*_, _/_, _%_, _^_, _≤_, _<_}
 use native.Mathlib.Nat.{le-refl, lt-of-le-of-lt}
-use native.Mathlib.Decide.{decLt, ℕ-discrete}
+use native.Mathlib.Decide.{decLt}
 use native.Mathlib.Omega.{arith}
 use lib.Pow.{high, low, shl-exact}
 use lib.Bits.{bitAnd, bitOr, and-le-r, or-zero-r, or-shifted-r, bitXor, xor-self}
 use Rattle.bits.specs.Bit.{bit}
-use Rattle.bits.proofs.Bits.{bit-lt, bit-or, bit-above, bit-cases, bit-of-zero}
+use Rattle.bits.proofs.Bits.{bit-lt, bit-or, bit-cases, bit-of-zero}
 use Rattle.bits.proofs.Shifts.{bit-low, bit-high, bit-div, bit-mod, bit-mod-above}
-use Rattle.bits.proofs.Words.{le-of-bits, or-cases}
-use Rattle.vectors.specs.Row.{row, WellFormed, Covers}
+use Rattle.bits.proofs.Words.{or-cases}
+use Rattle.vectors.specs.Row.{row, Covers}
 use Rattle.vectors.proofs.Rows.{covers-part, covered-part}
-use Rattle.columns.specs.Settled.{productOf, Formed, Column, UnknownExactly}
-use Rattle.columns.specs.Choices.{Covered, difference, differenceAt}
+use Rattle.columns.specs.Settled.{Formed, Column, UnknownExactly}
+use Rattle.columns.specs.Choices.{difference, differenceAt}
 use Rattle.columns.proofs.ProductMask.{product-steady}
-use Rattle.columns.proofs.Marked.{difference-clear, plain-bit, differing-unknown}
+use Rattle.columns.proofs.Marked.{difference-clear, differing-unknown}
 use Rattle.columns.proofs.Parts.{Part, part-and, part-below, part-le, next-part}
 
 -- ---- two parts in one word

@@ -6,7 +6,7 @@
 --   witnessed                                       a word of witnessed columns marks unknown ones
 use mathlib.Core.Path.{_≡_, sym, ap, _∙_}
 use mathlib.Core.Logic.{_⊎_, inl, inr, _≢_}
-use Prim.Native.Nat.{ℕ, _+_, _*_, _%_, _^_, _≤_, _<_}
+use Prim.Native.Nat.{ℕ, _+_, _*_, _%_, _^_, _<_}
 use native.Mathlib.Nat.{le-refl}
 use native.Mathlib.Omega.{arith}
 use lib.Bits.{bitAnd, bitOr, differ}
@@ -14,7 +14,7 @@ use Rattle.bits.specs.Bit.{bit}
 use Rattle.bits.proofs.Bits.{bit-lt, bit-and, bit-xor}
 use Rattle.bits.proofs.Shifts.{bit-mod}
 use Rattle.bits.proofs.Words.{or-cases}
-use Rattle.vectors.specs.Row.{row, WellFormed, Covers}
+use Rattle.vectors.specs.Row.{row}
 use Rattle.vectors.proofs.Rows.{covers-value, covers-part}
 use Rattle.vectors.proofs.Joins.{differ-cases}
 use Rattle.columns.specs.Settled.{productOf, Formed, Column, Marks, AllUnknown}

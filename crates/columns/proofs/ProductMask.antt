@@ -1,18 +1,16 @@
 -- The mask of a product: 1 where two covered products differ, 0 where all agree; its value is then the plain product's. Assumes nothing.
 use mathlib.Core.Path.{_≡_, sym, subst, _∙_}
-use mathlib.Core.Logic.{_⊎_, inl, inr, _≢_}
+use mathlib.Core.Logic.{inl, inr, _≢_}
 use mathlib.Core.List.{List, [], _∷_}
-use Prim.Native.Nat.{ℕ, _*_, _%_, _^_, _<_}
+use Prim.Native.Nat.{ℕ, _*_, _^_, _<_}
 use native.Mathlib.Omega.{arith}
 use Rattle.bits.specs.Bit.{bit}
 use Rattle.bits.proofs.Bits.{bit-cases}
 use Rattle.bits.proofs.Shifts.{bit-mod}
 use Rattle.vectors.specs.Row.{row, WellFormed, Covers}
 use Rattle.vectors.specs.Choice.{Chosen}
-use Rattle.vectors.specs.Hull.{Results}
 use Rattle.vectors.proofs.Rows.{covers-value}
-use Rattle.vectors.proofs.Hulls.{hull-all}
-use Rattle.vectors.proofs.Bests.{ByBits, best-by-bits, best-hull}
+use Rattle.vectors.proofs.Bests.{ByBits, best-by-bits}
 use Rattle.operations.specs.Arithmetic.{opMul}
 use Rattle.operations.specs.Result.{resultOf}
 use Rattle.columns.specs.Settled.{productOf}

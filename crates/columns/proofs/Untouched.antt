@@ -1,6 +1,5 @@
 -- Columns below every unknown bit's reach: bit i of one operand adds to no column below i + j, where the other operand is a multiple of 2 ^ j. Assumes nothing.
 use mathlib.Core.Path.{_≡_, sym, ap, ap₂, _∙_}
-use mathlib.Core.Logic.{inl, inr}
 use Prim.Native.Nat.{ℕ, _+_, _*_, _/_, _%_, _^_, _≤_, _<_}
 use native.Mathlib.Nat.{mod-lt, mul-comm, mul-add-mod-self-right}
 use native.Mathlib.Decide.{decLt}
@@ -13,7 +12,7 @@ use Rattle.bits.proofs.Bits.{bit-ext, bit-above, bit-or, bit-of-zero}
 use Rattle.bits.proofs.Shifts.{bit-mod, bit-same-low}
 use Rattle.bits.proofs.LowestBit.{trailing-bit}
 use Rattle.vectors.specs.Row.{row, WellFormed, Covers}
-use Rattle.columns.specs.Settled.{productOf, Formed, KnownBelow}
+use Rattle.columns.specs.Settled.{KnownBelow}
 use Rattle.columns.proofs.ProductMask.{product-steady}
 
 -- a factor that is a multiple of 2 ^ j lifts an agreement of the other factors below 2 ^ i to one below 2 ^ (i + j)

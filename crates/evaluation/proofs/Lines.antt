@@ -1,13 +1,12 @@
 -- The line of a refusal: its parts, its length, and the buffer that holds it. Assumes nothing.
-use mathlib.Core.Path.{_≡_, refl, sym, ap, _∙_}
+use mathlib.Core.Path.{_≡_, sym, ap, _∙_}
 use mathlib.Core.List.{List, [], _∷_, _++_, append-assoc}
-use Prim.Native.Nat.{ℕ, zero, suc, _+_, _*_, _/_, _^_, _≤_, _<_}
+use Prim.Native.Nat.{ℕ, zero, suc, _+_, _/_, _^_, _≤_, _<_}
 use native.Mathlib.Nat.{pow-suc, div-lt-iff-lt-mul, zero-add}
 use native.Mathlib.Decide.{decLt}
 use native.Mathlib.Omega.{arith}
 use lib.ListN.{length, drop, length-append}
-use lib.Seq.{sets, sets-eq}
-use Rattle.grammar.specs.Words.{lf, tab}
+use lib.Seq.{sets-eq}
 use Rattle.grammar.specs.Print.{decimal, joined}
 use Rattle.grammar.proofs.Decimals.{length-small, length-large}
 use Rattle.lines.specs.Put.{Holds, Put}

@@ -1,13 +1,12 @@
 -- What the calls leave, as what is printed. Assumes nothing.
-use mathlib.Core.Path.{_≡_, refl, sym, ap, _∙_, subst}
+use mathlib.Core.Path.{_≡_, sym, ap, _∙_, subst}
 use mathlib.Core.List.{List}
-use Prim.Native.Nat.{ℕ, _+_, _*_, _/_, _≤_}
+use Prim.Native.Nat.{ℕ, _≤_}
 use native.Mathlib.Omega.{arith}
 use lib.ListN.{length, drop, length-append}
 use Rattle.checks.specs.Check.{Answer, done, refused}
 use Rattle.checks.specs.Table.{State, Table, startOf, withRows, recordCount}
-use Rattle.checks.specs.Checks.{sizeBound}
-use Rattle.checks.specs.Accepted.{TablePassed, Accepted}
+use Rattle.checks.specs.Accepted.{Accepted}
 use Rattle.tables.specs.Run.{Ran, programOf, runOf}
 use Rattle.tables.specs.Demand.{StateFits}
 use Rattle.tables.proofs.Points.{after-fits}
@@ -15,7 +14,6 @@ use Rattle.tables.proofs.Demand3.{ran-done, accepted-of-run, accepted-with, sta
 use Rattle.tables.proofs.RunLaws.{never-done}
 use Rattle.grammar.specs.Print.{textOf}
 use Rattle.grammar.specs.Lists.{filled}
-use Rattle.grammar.specs.Lines.{tableRead}
 use Rattle.texts.specs.Calls.{Written, writeOf, Counts, ReadBack, readOf}
 use Rattle.texts.specs.Trips.{firstOf}
 use Rattle.texts.proofs.RoundTrips.{written, read-parts}

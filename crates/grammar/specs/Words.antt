@@ -6,7 +6,6 @@
 --   Edition            what a reader goes by: letters, operations, and how many numbers a record line has;   edition1   that of 01
 -- Edition 1 has no header line: textOf (Print) begins with the rows, and linesIn (Lines) reads every text by edition1.
 use Prim.Native.Nat.{ℕ, _-_}
-use Prim.Native.Char.{code}
 use mathlib.Core.Bool.{cond}
 use mathlib.Core.List.{List, [], _∷_}
 use lib.Dec.{eqb}

@@ -2,18 +2,13 @@
 use mathlib.Core.Path.{_≡_, refl, sym, ap, subst, subst₂, _∙_}
 use mathlib.Core.Bool.{Bool, not, _&&_}
 use mathlib.Core.List.{List, [], _∷_}
-use Prim.Native.Nat.{ℕ, zero, suc, _≤_, _<_}
-use native.Mathlib.Nat.{le-of-suc-le-suc}
-use lib.Arith.{lt-of-le-ne}
+use Prim.Native.Nat.{ℕ}
 use lib.Dec.{T, eqb, eqb→eq}
 use Rattle.bits.proofs.Bools.{T-left, T-right, T-not-not}
 use Rattle.vectors.specs.Row.{Row, row}
 use Rattle.operations.specs.Kind.{Use, unused, Kind, sameWidth, sameWidths, comparedWidths}
 use Rattle.operations.specs.Record.{misused, operands}
-use Rattle.operations.specs.Bitwise.{opCopy, opNot, opAnd, opOr, opXor}
-use Rattle.operations.specs.Moves.{opShl, opLshr, opAshr, opRotl, opExtract, opConcat, opZext, opSext}
-use Rattle.operations.specs.Arithmetic.{opAdd, opSub, opNeg, opMul, opEq, opUlt, opSlt, opIte}
-use Rattle.operations.specs.Kinds.{kinds, kindOf}
+use Rattle.operations.specs.Kinds.{kindOf}
 use Rattle.operations.specs.Result.{widthsOf, resultOf, Ready}
 
 -- ---- an arm: a kind's operands as its kernel names them

@@ -1,5 +1,5 @@
 -- The arm of each kind: a kernel's operands under the names of the pick. Assumes nothing.
-use mathlib.Core.Path.{_≡_, refl, _∙_}
+use mathlib.Core.Path.{_≡_, refl}
 use mathlib.Core.Bool.{_&&_}
 use mathlib.Core.List.{[], _∷_}
 use lib.Dec.{eqb}
@@ -11,7 +11,7 @@ use Rattle.operations.specs.Moves.{opShl, opLshr, opAshr, opRotl, opExtract, op
 use Rattle.operations.specs.Arithmetic.{opAdd, opSub, opNeg, opMul, opEq, opUlt, opSlt, opIte}
 use Rattle.operations.specs.Kinds.{kinds, kindOf}
 use Rattle.operations.specs.Result.{resultOf}
-use Rattle.kernels.proofs.Arms.{Given, Arm, ready-of, result-of, arm, none, rule, both-same, one-row, two-rows, compared-rows}
+use Rattle.kernels.proofs.Arms.{Given, Arm, arm, none, rule, both-same, one-row, two-rows, compared-rows}
 
 -- ---- the kinds by number
 

@@ -1,6 +1,6 @@
 -- The starred examples of 01 hold: computed over the whole table from `best` and the plain numbers. Assumes nothing.
 use mathlib.Core.Path.{_≡_, refl}
-use Rattle.bits.specs.Bit.{bit, isSet, number}
+use Rattle.bits.specs.Bit.{bit, number}
 use Rattle.bits.specs.Below.{someBelow, allBelow}
 use Rattle.vectors.specs.Choice.{coversb, someChoice}
 use Rattle.vectors.specs.Best.{may, best}

@@ -2,7 +2,7 @@
 --   opAdd opSub opNeg opMul opEq opUlt opSlt opIte
 -- In a plain number, w is the width of the first operand, first ws, and a, b are the operands' numbers.
 use mathlib.Core.Bool.{cond}
-use Prim.Native.Nat.{ℕ, _+_, _-_, _*_, _%_, _^_}
+use Prim.Native.Nat.{_+_, _-_, _*_, _%_, _^_}
 use lib.Dec.{eqb, ltb}
 use Rattle.bits.specs.Bit.{bit, digit}
 use Rattle.operations.specs.Kind.{bytes, asRow, unused, Kind, first, second, third, sameWidth, sameWidths, chosenWidths, comparedWidths}

@@ -1,7 +1,7 @@
 -- Kinds 0 to 4: copy and the bitwise kinds (01, "Records" and "Points and plain runs"). Each kind is described here and nowhere else.
 --   opCopy opNot opAnd opOr opXor
 -- In a plain number, w is the width of the first operand, first ws, and a, b are the operands' numbers.
-use Prim.Native.Nat.{ℕ, _-_, _^_}
+use Prim.Native.Nat.{_-_, _^_}
 use lib.Bits.{bitAnd, bitOr, bitXor}
 use Rattle.operations.specs.Kind.{bytes, asRow, unused, Kind, first, second, sameWidth, sameWidths}
 

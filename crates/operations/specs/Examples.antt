@@ -3,7 +3,6 @@
 --   starred     the twelve results marked * in 01, in its order
 --   computed    the results that `best` and the plain numbers give;  stated   the results that 01 gives
 use mathlib.Core.List.{List, [], _∷_, map}
-use Prim.Native.Nat.{ℕ}
 use Rattle.vectors.specs.Row.{Row, row}
 use Rattle.operations.specs.Kind.{Kind}
 use Rattle.operations.specs.Arithmetic.{opAdd, opSub, opNeg, opMul, opEq, opUlt, opSlt, opIte}

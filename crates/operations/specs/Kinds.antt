@@ -3,7 +3,7 @@
 --   numbered n ks, find n ks   a kind of the list has the number n; the first that has it, else opNone
 --   isKind n    some kind has the number n
 --   kindOf n    that kind; for a number that no kind has, opNone, which refusal 6 keeps from acting
-use mathlib.Core.Bool.{Bool, true, false, cond, _||_}
+use mathlib.Core.Bool.{Bool, false, cond, _||_}
 use mathlib.Core.List.{List, [], _∷_}
 use Prim.Native.Nat.{ℕ}
 use lib.Dec.{eqb}

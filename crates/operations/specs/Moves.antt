@@ -2,7 +2,7 @@
 --   opShl opLshr opAshr opRotl opExtract opConcat opZext opSext
 -- In a plain number, w is the width of the first operand, first ws, and a, b are the operands' numbers.
 use mathlib.Core.Bool.{_&&_}
-use Prim.Native.Nat.{ℕ, _+_, _-_, _*_, _/_, _%_, _^_, min}
+use Prim.Native.Nat.{_+_, _-_, _*_, _/_, _%_, _^_, min}
 use lib.Dec.{eqb}
 use Rattle.bits.specs.Bit.{isSet, number}
 use Rattle.bits.specs.Below.{someBelow}

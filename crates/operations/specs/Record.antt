@@ -9,7 +9,7 @@
 --   namedFaults n    checks 6 to 8 against n rows;  recordFaults   checks 6 to 9, in order;  lockFault   check 10
 --   Effect           a target row, operand rows, and the target's new number as a function of the operands' numbers
 --   effectOf         a record's effect;  effectsOf   the list of its effects, that one alone
-use mathlib.Core.Bool.{Bool, true, false, not}
+use mathlib.Core.Bool.{Bool, false, not}
 use mathlib.Core.List.{List, [], _∷_, _++_, map}
 use Prim.Native.Nat.{ℕ}
 use lib.Dec.{leb, ltb, eqb}

@@ -1,7 +1,7 @@
 -- The words that the code computes, for every width of a word. Assumes nothing.
 use mathlib.Core.Path.{_≡_, sym, ap, ap₂, _∙_}
 use Prim.Native.Nat.{ℕ, zero, suc, _+_, _-_, _*_, _/_, _%_, _^_, _≤_, _<_, min}
-use native.Mathlib.Nat.{mod-lt, mul-comm, one-mul, pow-suc, lt-of-le-of-lt}
+use native.Mathlib.Nat.{mod-lt, mul-comm, pow-suc, lt-of-le-of-lt}
 use native.Mathlib.Numerals.{add-one}
 use native.Mathlib.Omega.{arith}
 use lib.Arith.{digits-lt}

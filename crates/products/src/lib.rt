@@ -8,7 +8,7 @@ ghost use Rattle.bits.specs.Four.{reversedWords};
 ghost use Rattle.vectors.specs.Row.{row, WellFormed};
 ghost use Rattle.operations.specs.Arithmetic.{opMul};
 ghost use Rattle.operations.specs.Result.{resultOf, Ready};
-ghost use Rattle.columns.specs.Settled.{productOf, Formed, UnknownExactly};
+ghost use Rattle.columns.specs.Settled.{productOf, Formed};
 ghost use Rattle.products.specs.OutputBits.{outputBit, maskBit};
 ghost use Rattle.products.specs.Granted.{Granted, Open};
 use bits::FourWords;

@@ -9,7 +9,7 @@ use lib.ListN.{length}
 use Rattle.bits.proofs.Bools.{T-and, T-left, T-right}
 use Rattle.operations.specs.Record.{recordFaults, lockFault}
 use Rattle.checks.specs.Check.{Answer, done, refused, Check, verdict, placed, rising}
-use Rattle.checks.specs.Checks.{rowShapeFaults, wordFaults, stretchFaults, rowFaultsAt, rowChecks, openChecks, runChecks}
+use Rattle.checks.specs.Checks.{rowFaultsAt, rowChecks, openChecks, runChecks}
 use Rattle.checks.specs.Table.{Table, recordCount, recordOf}
 
 -- no check of the list has the number 0

@@ -1,17 +1,16 @@
 -- Demand 3, for every table and every stretch that run accepts, with all kinds. Assumes nothing.
 use mathlib.Core.Path.{_≡_, refl, sym, ap, _∙_, subst, subst₂}
-use mathlib.Core.List.{List, [], _∷_}
-use Prim.Native.Nat.{ℕ, suc, _+_, _-_, _≤_, _<_}
+use mathlib.Core.List.{[], _∷_}
+use Prim.Native.Nat.{ℕ, suc, _-_, _≤_, _<_}
 use native.Mathlib.Nat.{add-sub-of-le, sub-self}
 use native.Mathlib.Omega.{arith}
-use lib.ListN.{length}
 use Rattle.operations.specs.Record.{Effect, effectOf, effectsOf, targetWord}
 use Rattle.checks.specs.Check.{Answer, done, refused, verdict}
-use Rattle.checks.specs.Table.{State, rowAt, Table, startOf, withRows, recordCount, recordOf}
+use Rattle.checks.specs.Table.{State, Table, startOf, withRows, recordOf}
 use Rattle.checks.specs.Checks.{runChecks}
 use Rattle.checks.specs.Accepted.{TablePassed, Accepted}
 use Rattle.checks.proofs.Accepts.{accepted-of-answer, answer-of-accepted}
-use Rattle.tables.specs.Step.{after, plainAfter}
+use Rattle.tables.specs.Step.{after}
 use Rattle.tables.specs.Run.{effectsAt, programOf, Ran, ranAs, runOf, pointRows, plainRun}
 use Rattle.tables.specs.Demand.{StateFits, CoversState, InsideState, After, Demand3}
 use Rattle.tables.proofs.Fits.{FitProgram, effects-fit}

@@ -1,35 +1,32 @@
 -- Fully known operand rows give the SMT-LIB number, at every point of an accepted run. Assumes nothing.
-use mathlib.Core.Path.{_≡_, refl, sym, ap, _∙_, subst, subst₂}
+use mathlib.Core.Path.{_≡_, sym, ap, _∙_, subst, subst₂}
 use mathlib.Core.Bool.{not}
-use mathlib.Core.List.{List, [], _∷_, map}
-use Prim.Native.Nat.{ℕ, suc, _+_, _-_, _^_, _≤_, _<_}
+use mathlib.Core.List.{List, map}
+use Prim.Native.Nat.{ℕ, suc, _-_, _^_, _≤_, _<_}
 use native.Mathlib.Nat.{add-sub-of-le}
 use native.Mathlib.Omega.{arith}
 use lib.Dec.{T}
-use lib.ListN.{length, getD}
-use Rattle.vectors.specs.Lists.{Each, Along}
-use Rattle.vectors.specs.Row.{Row, row, WellFormed, Covers}
-use Rattle.vectors.proofs.Lists.{each-map, each-imp, along-map}
-use Rattle.vectors.proofs.Rows.{covers-value}
+use lib.ListN.{getD}
+use Rattle.vectors.specs.Row.{Row, row}
+use Rattle.vectors.proofs.Lists.{each-map, along-map}
 use Rattle.vectors.proofs.BestLaws.{best-known}
-use Rattle.operations.specs.Kind.{Use, asRow, asNumber, unused, Kind}
-use Rattle.operations.specs.Kinds.{isKind, kindOf}
-use Rattle.operations.specs.Record.{kindWord, targetWord, firstWord, secondWord, parameterWord, kindIn, widthAt, used, operands, rowsNamed, misused, widthsFit, Effect, effectOf, effectsOf}
+use Rattle.operations.specs.Kind.{Kind}
+use Rattle.operations.specs.Kinds.{kindOf}
+use Rattle.operations.specs.Record.{kindWord, targetWord, firstWord, secondWord, parameterWord, kindIn, widthAt, rowsNamed, misused, effectOf, effectsOf}
 use Rattle.operations.specs.Result.{Below, arity}
-use Rattle.operations.specs.Bitvector.{nat}
-use Rattle.operations.specs.Terms.{Term, terms, vectors, Served, Agrees}
+use Rattle.operations.specs.Terms.{Term, Served}
 use Rattle.operations.proofs.SmtTerms.{term-of}
 use Rattle.checks.specs.Table.{State, rowAt, Table, startOf, recordCount, recordOf}
-use Rattle.checks.specs.Accepted.{RowPassed, RecordPassed, TablePassed, Accepted}
-use Rattle.tables.specs.Step.{operandRows, result, step, after}
+use Rattle.checks.specs.Accepted.{RecordPassed, TablePassed, Accepted}
+use Rattle.tables.specs.Step.{operandRows, step, after}
 use Rattle.tables.specs.Run.{programOf, pointRows}
 use Rattle.tables.specs.Demand.{StateFits}
-use Rattle.tables.specs.Known.{KnownBefore, smtNumber, SmtNumber}
+use Rattle.tables.specs.Known.{KnownBefore, SmtNumber}
 use Rattle.tables.proofs.Lists.{map-map, operands-count}
 use Rattle.tables.proofs.Fits.{effect-fits, effects-fit}
-use Rattle.tables.proofs.Steps.{chosen-below, operands-formed, step-targets}
+use Rattle.tables.proofs.Steps.{operands-formed, step-targets}
 use Rattle.tables.proofs.Points.{after-fits}
-use Rattle.tables.proofs.Demand3.{start-fits, program-fits, at-point}
+use Rattle.tables.proofs.Demand3.{start-fits, at-point}
 
 -- ---- one record
 

@@ -1,11 +1,10 @@
 -- The points of a stretch: what holds after each record. `after` from both ends. Assumes nothing.
 --   Stretch P first n s   demand 3 of the n records from `first` on, run from the rows s, but for what is accepted
-use mathlib.Core.Path.{_≡_, refl, sym, ap, _∙_}
+use mathlib.Core.Path.{_≡_, sym, ap, _∙_}
 use mathlib.Core.List.{List}
 use Prim.Native.Nat.{ℕ, zero, suc, _+_, _≤_, _<_}
 use native.Mathlib.Nat.{add-zero, add-suc, suc-add}
 use native.Mathlib.Omega.{arith}
-use lib.ListN.{length}
 use Rattle.checks.specs.Table.{State}
 use Rattle.tables.specs.Step.{Program, step, plainStep, after, plainAfter}
 use Rattle.tables.specs.Demand.{StateFits, CoversState, InsideState, After}

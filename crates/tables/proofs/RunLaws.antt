@@ -1,8 +1,8 @@
 -- What run answers and leaves, from the verdict of its checks. Assumes nothing.
-use mathlib.Core.Path.{_≡_, refl, sym, ap, _∙_, subst}
+use mathlib.Core.Path.{_≡_, sym, ap, _∙_, subst}
 use Prim.Native.Nat.{ℕ, _-_}
 use native.Mathlib.Omega.{arith}
-use Rattle.checks.specs.Check.{Answer, done, refused, verdict}
+use Rattle.checks.specs.Check.{Answer, done, refused}
 use Rattle.checks.specs.Table.{State, Table, startOf}
 use Rattle.checks.specs.Checks.{runChecks}
 use Rattle.checks.specs.Accepted.{Accepted}

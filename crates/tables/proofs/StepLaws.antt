@@ -1,12 +1,11 @@
 -- A record's step as the code makes it: the rows that its words name, the kernel's result, and the one row written. Assumes nothing.
 use mathlib.Core.Path.{_≡_, refl, sym, ap, _∙_, subst, subst₂}
-use mathlib.Core.Bool.{Bool, true, false, not, _&&_}
+use mathlib.Core.Bool.{Bool, true, false, _&&_}
 use mathlib.Core.List.{List, [], _∷_, map}
 use Prim.Native.Nat.{ℕ, _≤_, _<_}
-use native.Mathlib.Omega.{arith}
 use lib.Dec.{T, eqb, eqb→eq}
 use lib.ListN.{length, getD, set}
-use Rattle.bits.proofs.Bools.{T-left, T-right}
+use Rattle.bits.proofs.Bools.{T-right}
 use Rattle.vectors.specs.Lists.{Each}
 use Rattle.vectors.specs.Row.{Row, row, WellFormed}
 use Rattle.vectors.specs.Best.{best}
@@ -16,8 +15,8 @@ use Rattle.operations.specs.Bitwise.{opCopy, opNot, opAnd, opOr, opXor}
 use Rattle.operations.specs.Moves.{opShl, opLshr, opAshr, opRotl, opExtract, opConcat, opZext, opSext}
 use Rattle.operations.specs.Arithmetic.{opAdd, opSub, opNeg, opMul, opEq, opUlt, opSlt, opIte}
 use Rattle.operations.specs.Kinds.{kinds, kindOf}
-use Rattle.operations.specs.Record.{widthAt, used, operands, rowsNamed, widthsFit, Effect, effectOf, effectsOf}
-use Rattle.operations.specs.Result.{widthsOf, resultOf, arity, Ready}
+use Rattle.operations.specs.Record.{widthAt, used, operands, rowsNamed, effectOf, effectsOf}
+use Rattle.operations.specs.Result.{widthsOf, resultOf, Ready}
 use Rattle.operations.proofs.Lookup.{each-kind, kind-below, below-kind}
 use Rattle.checks.specs.Limits.{widthLimit}
 use Rattle.checks.specs.Table.{State, rowAt}

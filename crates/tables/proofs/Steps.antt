@@ -1,13 +1,13 @@
 -- What one record does: to the rows, to plain numbers, and to both together. Assumes nothing.
-use mathlib.Core.Path.{_≡_, refl, sym, ap, _∙_, subst}
+use mathlib.Core.Path.{_≡_, sym, subst}
 use mathlib.Core.Logic.{_≢_}
 use mathlib.Core.List.{List, [], _∷_, map}
-use Prim.Native.Nat.{ℕ, _^_, _<_}
+use Prim.Native.Nat.{ℕ, _<_}
 use lib.ListN.{length, getD}
 use Rattle.vectors.specs.Lists.{Each}
-use Rattle.vectors.specs.Row.{Row, WellFormed, Covers, Inside}
+use Rattle.vectors.specs.Row.{WellFormed, Covers, Inside}
 use Rattle.vectors.specs.Choice.{Chosen}
-use Rattle.vectors.specs.Best.{best, Exact}
+use Rattle.vectors.specs.Best.{Exact}
 use Rattle.vectors.proofs.Lists.{each-map, each-imp, each-both, each-all, along-map}
 use Rattle.vectors.proofs.Bests.{best-by-bits}
 use Rattle.vectors.proofs.BestLaws.{best-exact, best-covers, best-mono}

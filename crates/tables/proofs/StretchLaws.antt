@@ -1,14 +1,14 @@
 -- A stretch of records as the code steps through it: a part of the words, from its first record on. Assumes nothing.
 use mathlib.Core.Path.{_≡_, refl, sym, ap, _∙_, subst}
 use mathlib.Core.List.{List, [], _∷_}
-use Prim.Native.Nat.{ℕ, zero, suc, _+_, _-_, _*_, _/_, _≤_, _<_}
-use native.Mathlib.Nat.{zero-add, add-zero, add-suc}
+use Prim.Native.Nat.{ℕ, zero, suc, _+_, _-_, _*_, _/_, _<_}
+use native.Mathlib.Nat.{zero-add}
 use native.Mathlib.Numerals.{add-one}
 use native.Mathlib.Omega.{arith}
 use lib.ListN.{length, getD, take, drop, length-take, length-drop}
 use lib.Seq.{getD-take, getD-drop}
-use Rattle.operations.specs.Record.{Effect, effectsOf}
-use Rattle.checks.specs.Table.{State, Table, startOf, recordCount, recordOf}
+use Rattle.operations.specs.Record.{effectsOf}
+use Rattle.checks.specs.Table.{State, Table, startOf, recordOf}
 use Rattle.checks.specs.Accepted.{RecordPassed, Accepted}
 use Rattle.checks.specs.Meant.{lent}
 use Rattle.checks.proofs.Naming.{record-words}

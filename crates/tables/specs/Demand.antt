@@ -12,7 +12,7 @@ use lib.ListN.{length, getD}
 use Rattle.vectors.specs.Lists.{Each}
 use Rattle.vectors.specs.Row.{WellFormed, Covers, Inside}
 use Rattle.vectors.specs.Best.{Exact}
-use Rattle.operations.specs.Record.{Effect, widthAt, targetWord, effectOf}
+use Rattle.operations.specs.Record.{Effect, widthAt, targetWord}
 use Rattle.checks.specs.Check.{done}
 use Rattle.checks.specs.Table.{State, rowAt, Table, startOf, withRows, recordOf}
 use Rattle.tables.specs.Step.{operandRows}

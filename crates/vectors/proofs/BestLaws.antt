@@ -1,8 +1,8 @@
 -- What `best` is worth: exact, fewest unknown bits, covering, monotone, plain on known rows. Assumes nothing.
 use mathlib.Core.Path.{_≡_, refl, sym, ap, _∙_, subst}
-use mathlib.Core.Logic.{inl, inr, _↔_}
+use mathlib.Core.Logic.{inl}
 use mathlib.Core.List.{List, [], _∷_, map}
-use Prim.Native.Nat.{ℕ, zero, suc, _^_, _≤_, _<_}
+use Prim.Native.Nat.{ℕ, _^_, _<_}
 use native.Mathlib.Omega.{arith}
 use lib.ListN.{getD}
 use lib.Pow.{pow-pos}
@@ -13,7 +13,7 @@ use Rattle.vectors.specs.Row.{Row, row, WellFormed, Covers, Inside}
 use Rattle.vectors.specs.Choice.{Chosen}
 use Rattle.vectors.specs.Best.{best, Exact}
 use Rattle.vectors.specs.Hull.{Hull, Results}
-use Rattle.vectors.proofs.Rows.{covers-value, pick}
+use Rattle.vectors.proofs.Rows.{pick}
 use Rattle.vectors.proofs.Choices.{some-chosen, chosen-inside}
 use Rattle.vectors.proofs.Hulls.{hull-covers, hull-all, hull-least, hull-mono}
 use Rattle.vectors.proofs.Bests.{Gives, ByBits, best-by-bits, best-hull, some-result, best-from-bits}

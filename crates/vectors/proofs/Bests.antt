@@ -9,12 +9,12 @@ use Prim.Native.Nat.{ℕ, _<_}
 use native.Mathlib.Decide.{decLt}
 use native.Mathlib.Omega.{arith}
 use lib.Dec.{T, eqb→eq}
-use Rattle.bits.specs.Bit.{bit, digit, number}
+use Rattle.bits.specs.Bit.{bit, digit}
 use Rattle.bits.proofs.Bits.{bit-cases, bit-above, bit-number, number-below}
 use Rattle.bits.proofs.Bools.{eq→eqb}
 use Rattle.vectors.specs.Lists.{Each}
 use Rattle.vectors.specs.Row.{Row, WellFormed}
-use Rattle.vectors.specs.Choice.{Chosen, someChoice}
+use Rattle.vectors.specs.Choice.{Chosen}
 use Rattle.vectors.specs.Best.{may, best}
 use Rattle.vectors.specs.Hull.{Shows, Hull, Results}
 use Rattle.vectors.proofs.Choices.{someChoice-intro, someChoice-elim, some-chosen}

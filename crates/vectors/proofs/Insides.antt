@@ -1,9 +1,7 @@
 -- Inside, bit by bit, both ways; two vectors inside one another are one. Assumes nothing.
 use mathlib.Core.Path.{_≡_, sym, _∙_, subst}
-use mathlib.Core.Logic.{inl, inr}
 use Prim.Native.Nat.{ℕ, _<_}
 use Rattle.bits.specs.Bit.{bit}
-use Rattle.bits.proofs.Bits.{bit-cases, bit-ext}
 use Rattle.vectors.specs.Row.{Row, WellFormed, Covers, Inside, KnownAs}
 use Rattle.vectors.specs.Hull.{Hull}
 use Rattle.vectors.proofs.Rows.{covers-value}

@@ -3,10 +3,10 @@ use mathlib.Core.Path.{_≡_, refl, sym, ap₂, _∙_}
 use mathlib.Core.Logic.{_⊎_, inl, inr}
 use Prim.Native.Nat.{ℕ, zero, suc, _+_, _<_, max}
 use native.Mathlib.Omega.{arith}
-use lib.Bits.{bitAnd, bitOr, bitXor, differ, and-lt, or-lt, xor-lt}
+use lib.Bits.{bitOr, bitXor, differ, and-lt, or-lt, xor-lt}
 use Rattle.bits.specs.Bit.{bit}
 use Rattle.bits.proofs.Bits.{bit-lt, bit-cases, bit-and, bit-or, bit-xor}
-use Rattle.vectors.specs.Row.{Row, WellFormed, Covers, Inside}
+use Rattle.vectors.specs.Row.{Row, WellFormed, Inside}
 use Rattle.vectors.specs.Hull.{Shows, Hull, join}
 use Rattle.vectors.proofs.Hulls.{Some, shows-imp}
 

@@ -1,5 +1,4 @@
 -- Laws of properties along lists. Assumes nothing.
-use mathlib.Core.Path.{_≡_, refl, ap}
 use mathlib.Core.List.{List, [], _∷_, map}
 use Rattle.vectors.specs.Lists.{Each, Along}
 

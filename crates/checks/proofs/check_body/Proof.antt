@@ -1,14 +1,9 @@
 -- `checks::check_body` meets its contract: the rows, then the records. Assumes nothing.
-use mathlib.Core.Path.{_≡_, sym, ap, _∙_}
-use mathlib.Core.Bool.{true, false}
-use mathlib.Core.List.{List, [], _∷_, _++_}
-use lib.ListN.{length, getD}
-use Rattle.checks.specs.Check.{placed, verdict}
-use Rattle.checks.specs.Checks.{rowShapeFaults, wordFaults, stretchFaults, rowChecks, recordChecks, openChecks, sizeChecks, runChecks, countChecks}
-use Rattle.checks.specs.Meant.{lent, meant, judged}
-use Rattle.checks.specs.Coded.{recordsWith, headChecks, bodyChecks}
-use Rattle.checks.proofs.Verdicts.{passed-of-done, passed-left}
-use Rattle.checks.proofs.Walks.{goes-on, stops, slices-of-shape}
+use mathlib.Core.Path.{sym, ap, _∙_}
+use Rattle.checks.specs.Checks.{rowChecks}
+use Rattle.checks.specs.Meant.{lent, meant}
+use Rattle.checks.specs.Coded.{recordsWith}
+use Rattle.checks.proofs.Walks.{goes-on, stops}
 use borrow.Author.Needs.{needs}
 use Rattle.checks.proofs.check_body.Statement.{statement}
 use Rattle.checks.proofs.check_body.Tie as tie

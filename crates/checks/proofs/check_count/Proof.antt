@@ -1,13 +1,10 @@
 -- `checks::check_count` meets its contract: checks 1 and 2, the rows, then 7 for the row named. Assumes nothing.
-use mathlib.Core.Path.{_≡_, sym, ap, _∙_}
-use mathlib.Core.Bool.{true, false}
-use mathlib.Core.List.{List, [], _∷_, _++_}
-use lib.ListN.{length, getD}
+use mathlib.Core.Path.{sym, ap, _∙_}
+use mathlib.Core.List.{[], _∷_, _++_}
 use Rattle.checks.specs.Check.{placed, verdict}
-use Rattle.checks.specs.Checks.{rowShapeFaults, wordFaults, stretchFaults, rowChecks, recordChecks, openChecks, sizeChecks, runChecks, countChecks, rowOutside}
-use Rattle.checks.specs.Meant.{lent, meant, judged}
-use Rattle.checks.specs.Coded.{recordsWith, headChecks, bodyChecks}
-use Rattle.checks.proofs.Verdicts.{passed-of-done, passed-left}
+use Rattle.checks.specs.Checks.{rowShapeFaults, rowChecks, countChecks, rowOutside}
+use Rattle.checks.specs.Meant.{lent, meant}
+use Rattle.checks.proofs.Verdicts.{passed-of-done}
 use Rattle.checks.proofs.Walks.{goes-on, stops, slices-of-shape}
 use Rattle.operations.specs.Record.{fault}
 use borrow.Author.Tests.{le-leb, lt-leb}

@@ -1,6 +1,6 @@
 -- `checks::check_stretch` meets its contract: check 3 of the stretch, test by test. Assumes nothing.
 use Rattle.checks.specs.Check.{verdict}
-use borrow.Author.Tests.{eq-eqb, ne-eqb, lt-ltb, le-ltb}
+use borrow.Author.Tests.{lt-ltb, le-ltb}
 use borrow.Author.Needs.{needs}
 use Rattle.checks.proofs.check_stretch.Statement.{statement}
 use Rattle.checks.proofs.check_stretch.Tie as tie

@@ -1,12 +1,10 @@
 -- `checks::check_table` meets its contract: the first checks, then rows and records. Assumes nothing.
-use mathlib.Core.Path.{_≡_, sym, ap, _∙_}
-use mathlib.Core.Bool.{true, false}
-use mathlib.Core.List.{List, [], _∷_, _++_}
-use lib.ListN.{length, getD}
-use Rattle.checks.specs.Check.{placed, verdict}
-use Rattle.checks.specs.Checks.{rowShapeFaults, wordFaults, stretchFaults, rowChecks, recordChecks, openChecks, sizeChecks, runChecks, countChecks}
+use mathlib.Core.Path.{sym, ap, _∙_}
+use mathlib.Core.List.{_++_}
+use Rattle.checks.specs.Check.{placed}
+use Rattle.checks.specs.Checks.{rowShapeFaults, wordFaults, rowChecks, recordChecks, sizeChecks}
 use Rattle.checks.specs.Meant.{lent, meant, judged}
-use Rattle.checks.specs.Coded.{recordsWith, headChecks, bodyChecks}
+use Rattle.checks.specs.Coded.{headChecks}
 use Rattle.checks.proofs.Verdicts.{passed-of-done, passed-left}
 use Rattle.checks.proofs.Walks.{goes-on, stops, slices-of-shape}
 use Rattle.checks.proofs.Recording.{records-closed}

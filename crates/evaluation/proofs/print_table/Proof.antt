@@ -1,5 +1,5 @@
 -- `evaluation::print_table` meets its contract: run, then the table's text or the refusal's line. Assumes nothing.
-use mathlib.Core.Path.{_≡_, sym, ap, _∙_}
+use mathlib.Core.Path.{sym, ap, _∙_}
 use Rattle.checks.specs.Meant.{lent}
 use Rattle.tables.specs.Meant.{held, ran}
 use Rattle.tables.specs.declared.RunAnswer.{RunAnswer}

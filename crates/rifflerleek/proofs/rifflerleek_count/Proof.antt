@@ -1,6 +1,6 @@
 -- `rifflerleek::rifflerleek_count` meets its contract: what count answers, in the host's struct. Assumes nothing.
 use borrow.Author.Needs.{needs}
-use mathlib.Core.Path.{_≡_, sym, ap, _∙_}
+use mathlib.Core.Path.{sym, ap, _∙_}
 use Rattle.tables.specs.Meant.{countMeant}
 use Rattle.rifflerleek.specs.Host.{countAnswer}
 use Rattle.rifflerleek.proofs.rifflerleek_count.Statement.{statement}

@@ -1,6 +1,6 @@
 -- `rifflerleek::rifflerleek_field` meets its contract: the field begins where it does in its line, and ends after its bytes. Assumes nothing.
 use borrow.Author.Needs.{needs}
-use mathlib.Core.Path.{_≡_, ap, _∙_}
+use mathlib.Core.Path.{ap, _∙_}
 use native.Mathlib.Omega.{arith}
 use denote.Ref.{ptr}
 use Rattle.grammar.specs.Cut.{Part}

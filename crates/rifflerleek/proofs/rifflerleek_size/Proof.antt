@@ -1,6 +1,6 @@
 -- `rifflerleek::rifflerleek_size` meets its contract: what size answers, in the host's struct. Assumes nothing.
 use borrow.Author.Needs.{needs}
-use mathlib.Core.Path.{_≡_, sym, ap, _∙_}
+use mathlib.Core.Path.{sym, ap, _∙_}
 use Rattle.texts.specs.Meant.{bytesMeant}
 use Rattle.rifflerleek.specs.Host.{numberAnswer}
 use Rattle.rifflerleek.proofs.rifflerleek_size.Statement.{statement}

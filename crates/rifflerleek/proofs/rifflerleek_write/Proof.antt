@@ -1,6 +1,6 @@
 -- `rifflerleek::rifflerleek_write` meets its contract: what write answers and leaves, in the host's struct. Assumes nothing.
 use borrow.Author.Needs.{needs}
-use mathlib.Core.Path.{_≡_, sym, ap, _∙_}
+use mathlib.Core.Path.{sym, ap, _∙_}
 use Rattle.texts.specs.declared.BytesAnswer.{BytesAnswer}
 use Rattle.texts.specs.Meant.{writeLeft}
 use Rattle.rifflerleek.specs.declared.Answer.{Answer}

@@ -1,5 +1,5 @@
 -- `tables::count` meets its contract: the checks, then the ones of the mask. Assumes nothing.
-use mathlib.Core.Path.{_≡_, sym, ap, _∙_}
+use mathlib.Core.Path.{sym, ap, _∙_}
 use mathlib.Core.List.{[]}
 use native.Mathlib.Omega.{arith}
 use Rattle.checks.specs.Checks.{countChecks}

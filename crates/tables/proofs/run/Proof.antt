@@ -1,9 +1,8 @@
 -- `tables::run` meets its contract: checked whole, then stepped through the part of the words that the stretch is. Assumes nothing.
-use mathlib.Core.Path.{_≡_, sym, ap, _∙_}
+use mathlib.Core.Path.{sym, ap, _∙_}
 use native.Mathlib.Omega.{arith}
 use Rattle.checks.specs.Accepted.{Accepted}
 use Rattle.checks.specs.Meant.{lent, meant}
-use Rattle.tables.specs.Meant.{held}
 use Rattle.tables.proofs.StretchLaws.{part-ready, part-after}
 use Rattle.tables.proofs.RunLaws.{never-done, refused-run, accepted-run, done-run, demand3-left}
 use borrow.Author.Needs.{needs}

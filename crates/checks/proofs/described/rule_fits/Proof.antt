@@ -1,6 +1,6 @@
 -- `checks::described::rule_fits` meets its contract: one rule for each code. Assumes nothing.
 use borrow.Author.Needs.{needs}
-use mathlib.Core.Path.{_≡_, refl, ap, _∙_}
+use mathlib.Core.Path.{refl, ap, _∙_}
 use mathlib.Core.Bool.{Bool, _&&_}
 use lib.Dec.{eqb}
 use Rattle.checks.specs.Coded.{ruleOf}

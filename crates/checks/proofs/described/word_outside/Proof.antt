@@ -1,9 +1,7 @@
 -- `checks::described::word_outside` meets its contract, whatever the use that the code stands for. Assumes nothing.
-use mathlib.Core.Path.{_≡_, refl, sym, _∙_}
+use mathlib.Core.Path.{refl}
 use native.Mathlib.Omega.{arith}
-use borrow.Author.Tests.{le-leb, lt-leb}
-use Rattle.operations.specs.Kind.{Use, asRow, asNumber, unused}
-use Rattle.checks.specs.Coded.{useCode}
+use Rattle.operations.specs.Kind.{asRow, asNumber, unused}
 use Rattle.checks.proofs.described.word_outside.Statement.{statement}
 use Rattle.checks.proofs.described.word_outside.Tie as tie
 

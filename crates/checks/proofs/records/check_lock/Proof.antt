@@ -1,5 +1,5 @@
 -- `checks::records::check_lock` meets its contract. Assumes nothing.
-use mathlib.Core.Path.{_≡_, sym, ap, _∙_}
+use mathlib.Core.Path.{sym, ap, _∙_}
 use Prim.Native.Nat.{ℕ}
 use lib.ListN.{getD}
 use Rattle.checks.proofs.Recording.{lock-refused, lock-open, lock-unasked}

@@ -1,8 +1,8 @@
 -- `checks::records::check_named` meets its contract, test by test. Assumes nothing.
-use mathlib.Core.Path.{_≡_, sym, ap, _∙_, subst}
+use mathlib.Core.Path.{sym, ap, _∙_, subst}
 use Prim.Native.Nat.{ℕ, _≤_, _<_}
 use Rattle.operations.specs.Kinds.{kindOf}
-use Rattle.operations.specs.Record.{outside, misused}
+use Rattle.operations.specs.Record.{outside}
 use Rattle.checks.specs.Coded.{useCode}
 use Rattle.checks.proofs.Naming.{by-kind, by-target, by-first, by-second, by-parameter, by-second-use, by-parameter-use, by-none}
 use borrow.Author.Needs.{needs}

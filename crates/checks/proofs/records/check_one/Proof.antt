@@ -3,7 +3,7 @@ use mathlib.Core.Path.{_≡_, sym, ap, _∙_}
 use mathlib.Core.List.{List, [], _∷_}
 use Prim.Native.Nat.{ℕ, _+_, _*_}
 use native.Mathlib.Omega.{arith}
-use lib.ListN.{length, getD}
+use lib.ListN.{getD}
 use Rattle.operations.specs.Record.{targetWord, recordFaults}
 use Rattle.checks.specs.Check.{placed}
 use Rattle.checks.specs.Table.{recordOf}

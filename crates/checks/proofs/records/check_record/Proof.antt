@@ -1,5 +1,5 @@
 -- `checks::records::check_record` meets its contract: checks 6 to 8, then 9. Assumes nothing.
-use mathlib.Core.Path.{_≡_, sym, ap, _∙_}
+use mathlib.Core.Path.{sym, ap, _∙_}
 use mathlib.Core.Bool.{not}
 use mathlib.Core.List.{[], _∷_}
 use lib.ListN.{length}

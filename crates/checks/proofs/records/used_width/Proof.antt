@@ -1,5 +1,5 @@
 -- `checks::records::used_width` meets its contract, whatever the use that the code stands for. Assumes nothing.
-use mathlib.Core.Path.{_≡_, refl, sym, _∙_}
+use mathlib.Core.Path.{_≡_, refl}
 use native.Mathlib.Omega.{arith}
 use borrow.Author.Needs.{needs}
 use Rattle.operations.specs.Kind.{Use, asRow, asNumber, unused}

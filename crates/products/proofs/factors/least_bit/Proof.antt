@@ -2,7 +2,6 @@
 use mathlib.Core.Path.{sym, ap}
 use Prim.Native.Nat.{_+_, _-_, _^_}
 use native.Mathlib.Omega.{arith}
-use lib.Dec.{leb}
 use borrow.Author.Tests.{le-leb, lt-leb}
 use borrow.Author.Needs.{needs}
 use Rattle.bits.specs.Bit.{digit}

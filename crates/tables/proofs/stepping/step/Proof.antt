@@ -1,5 +1,5 @@
 -- `tables::stepping::step` meets its contract: the kernel's result over the rows that the words name, put at the target. Assumes nothing.
-use mathlib.Core.Path.{_≡_, sym, ap, _∙_}
+use mathlib.Core.Path.{ap, _∙_}
 use Prim.Native.Nat.{ℕ}
 use native.Mathlib.Omega.{arith}
 use Rattle.operations.specs.Kinds.{kindOf}

@@ -1,10 +1,10 @@
 -- `tables::stepping::step_all` meets its contract. The invariant: the rows are those after the first i records. Assumes nothing.
 use borrow.Author.Needs.{needs}
 use native.Mathlib.Omega.{arith}
-use mathlib.Core.Path.{_≡_, refl, sym, ap, _∙_, subst}
-use mathlib.Core.List.{List, [], _∷_}
-use Prim.Native.Nat.{ℕ, suc, _+_, _-_, _*_, _/_, _≤_}
-use lib.ListN.{length, getD}
+use mathlib.Core.Path.{_≡_, refl, sym, ap, _∙_}
+use mathlib.Core.List.{[]}
+use Prim.Native.Nat.{ℕ, _+_, _-_, _/_, _≤_}
+use lib.ListN.{length}
 use Rattle.checks.specs.Meant.{lent}
 use Rattle.tables.specs.Step.{after}
 use Rattle.tables.specs.Run.{programOf}

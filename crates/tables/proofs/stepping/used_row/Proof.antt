@@ -1,8 +1,8 @@
 -- `tables::stepping::used_row` meets its contract, whatever the use that the code stands for. Assumes nothing.
-use mathlib.Core.Path.{_≡_, refl}
+use mathlib.Core.Path.{refl}
 use native.Mathlib.Omega.{arith}
 use borrow.Author.Needs.{needs}
-use Rattle.operations.specs.Kind.{Use, asRow, asNumber, unused}
+use Rattle.operations.specs.Kind.{asRow, asNumber, unused}
 use Rattle.tables.proofs.stepping.used_row.Statement.{statement}
 use Rattle.tables.proofs.stepping.used_row.Tie as tie
 
