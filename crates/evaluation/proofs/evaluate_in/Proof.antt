@@ -13,18 +13,6 @@ use borrow.Author.Needs.{needs}
 use Rattle.evaluation.proofs.evaluate_in.Statement.{statement}
 use Rattle.evaluation.proofs.evaluate_in.Tie as tie
 
-read-requires : tie.Need-read-requires
-read-requires c κs = search needs
-
-enum-known-r : tie.Need-enum-known-r
-enum-known-r c = search needs
-
-put-refusal-requires : tie.Need-put-refusal-requires
-put-refusal-requires c κs = search needs
-
-enum-known-rows : tie.Need-enum-known-rows
-enum-known-rows c = search needs
-
 -- what read answered and left
 told : (c : tie.After-known-told2) →
     let s = c .before .before .before .before .before .before .before .before .before .before .before .before .before .before .before .before .before .before .before .before .before .before .before .before .before .before in
@@ -77,27 +65,6 @@ slice-reshare-prefix-print-table-3 c = space (c .before .before .before .before)
 slice-aggregate-print-table-5 : tie.Need-slice-aggregate-print-table-5
 slice-aggregate-print-table-5 c = sym (length-take-le _ _ (space (c .before .before .before .before .before) .words-hold))
 
-print-table-requires : tie.Need-print-table-requires
-print-table-requires c κs = search needs
-
-same-length : tie.Need-same-length
-same-length c = search needs
-
-same-length-2 : tie.Need-same-length-2
-same-length-2 c = search needs
-
-same-length-3 : tie.Need-same-length-3
-same-length-3 c = search needs
-
-same-length-4 : tie.Need-same-length-4
-same-length-4 c = search needs
-
-same-length-5 : tie.Need-same-length-5
-same-length-5 c = search needs
-
-same-length-6 : tie.Need-same-length-6
-same-length-6 c = search needs
-
 returns : tie.Need-returns
 returns c =
     let s = c .before .before .before .before .before .before .before .before .before .before .before .before .before .before .before .before .before .before .before .before .before .before .before .before .before .before .before .before .before .before in
@@ -106,24 +73,6 @@ returns c =
     (evaluated-refused (s .args .text .now) (lent (s .args .width .now) (s .args .lock .now) (s .args .mask .now) (s .args .value .now) (s .args .words .now)) _ _ _
     (ap (λ (x : ReadAnswer). readLeft x (lent (r .last .1 .0) (r .last .1 .1 .0) (r .last .1 .1 .1 .0) (r .last .1 .1 .1 .1 .0) (r .last .1 .1 .1 .1 .1 .0))) (sym (c .before .before .before .before .before .r .given .1)) ∙ r .ensures))
     (c .before .before .put-refusal .ensures)
-
-same-length-7 : tie.Need-same-length-7
-same-length-7 c = search needs
-
-same-length-8 : tie.Need-same-length-8
-same-length-8 c = search needs
-
-same-length-9 : tie.Need-same-length-9
-same-length-9 c = search needs
-
-same-length-10 : tie.Need-same-length-10
-same-length-10 c = search needs
-
-same-length-11 : tie.Need-same-length-11
-same-length-11 c = search needs
-
-same-length-12 : tie.Need-same-length-12
-same-length-12 c = search needs
 
 returns-2 : tie.Need-returns-2
 returns-2 c =
@@ -134,10 +83,10 @@ pub evaluate-in-spec : {M : Type 1} → statement M
 evaluate-in-spec =
     tie.close
     (tie.spec
-    read-requires
-    enum-known-r
-    put-refusal-requires
-    enum-known-rows
+    (λ c κs. search needs)
+    (λ c. search needs)
+    (λ c κs. search needs)
+    (λ c. search needs)
     mul-n
     slice-reshare-prefix-print-table
     slice-aggregate-print-table
@@ -149,18 +98,18 @@ evaluate-in-spec =
     slice-aggregate-print-table-4
     slice-reshare-prefix-print-table-3
     slice-aggregate-print-table-5
-    print-table-requires
-    same-length
-    same-length-2
-    same-length-3
-    same-length-4
-    same-length-5
-    same-length-6
+    (λ c κs. search needs)
+    (λ c. search needs)
+    (λ c. search needs)
+    (λ c. search needs)
+    (λ c. search needs)
+    (λ c. search needs)
+    (λ c. search needs)
     returns
-    same-length-7
-    same-length-8
-    same-length-9
-    same-length-10
-    same-length-11
-    same-length-12
+    (λ c. search needs)
+    (λ c. search needs)
+    (λ c. search needs)
+    (λ c. search needs)
+    (λ c. search needs)
+    (λ c. search needs)
     returns-2)

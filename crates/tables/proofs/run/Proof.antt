@@ -17,26 +17,11 @@ told c =
     let a = c .before .before .before .before .before .before .before .before .before .before .args in
     accepted-run (lent (a .width .now) (a .lock .now) (a .mask .now) (a .value .now) (a .words .now)) (a .first) (a .last) (sym (c .before .before .check-run .ensures) ∙ ap meant (c .enum-told .given .1))
 
-check-run-requires : tie.Need-check-run-requires
-check-run-requires c κs = search needs
-
-enum-known-r : tie.Need-enum-known-r
-enum-known-r c = search needs
-
-same-length : tie.Need-same-length
-same-length c = search needs
-
-same-length-2 : tie.Need-same-length-2
-same-length-2 c = search needs
-
 returns : tie.Need-returns
 returns c =
     let a = c .before .before .before .before .before .before .before .before .before .before .before .args in
     let e = sym (c .before .before .before .check-run .ensures) ∙ ap meant (c .before .r .given .1) in
     (refused-run (lent (a .width .now) (a .lock .now) (a .mask .now) (a .value .now) (a .words .now)) (a .first) (a .last) _ _ e, λ z. absurd (never-done _ _ _ z))
-
-enum-told : tie.Need-enum-told
-enum-told c = search needs
 
 mul-start : tie.Need-mul-start
 mul-start c =
@@ -66,12 +51,6 @@ step-all-requires : tie.Need-step-all-requires
 step-all-requires c κs =
     let a = c .before .before .before .before .before .before .before .before .before .before .before .before .before .args in part-ready (lent (a .width .now) (a .lock .now) (a .mask .now) (a .value .now) (a .words .now)) (a .first) (a .last) (told (c .before .before .before))
 
-same-length-3 : tie.Need-same-length-3
-same-length-3 c = search needs
-
-same-length-4 : tie.Need-same-length-4
-same-length-4 c = search needs
-
 returns-2 : tie.Need-returns-2
 returns-2 c =
     let a = c .before .before .before .before .before .before .before .before .before .before .before .before .before .before .before .before .before .before .args in
@@ -83,12 +62,12 @@ pub run-spec : {M : Type 1} → statement M
 run-spec =
     tie.close
     (tie.spec
-    check-run-requires
-    enum-known-r
-    same-length
-    same-length-2
+    (λ c κs. search needs)
+    (λ c. search needs)
+    (λ c. search needs)
+    (λ c. search needs)
     returns
-    enum-told
+    (λ c. search needs)
     mul-start
     mul-end
     mul-step-all
@@ -96,6 +75,6 @@ run-spec =
     part-step-all-start
     part-step-all-end
     step-all-requires
-    same-length-3
-    same-length-4
+    (λ c. search needs)
+    (λ c. search needs)
     returns-2)

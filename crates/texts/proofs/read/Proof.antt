@@ -31,9 +31,6 @@ returns-4 c =
     let slices = lent (s .args .width .now) (s .args .lock .now) (s .args .mask .now) (s .args .value .now) (s .args .words .now) in
     refuse-length (s .args .text .now) slices (p3 .if1 .left) (p2 .if2 .left) (c .before .if3 .left) (c .if4 .taken)
 
-survey-requires : tie.Need-survey-requires
-survey-requires c κs = search needs
-
 returns-5 : tie.Need-returns-5
 returns-5 c =
     let p2 = c .before .before in
@@ -54,9 +51,6 @@ returns-6 c =
     let s = p6 .before .before .before .before .before .before .before in
     let slices = lent (s .args .width .now) (s .args .lock .now) (s .args .mask .now) (s .args .value .now) (s .args .words .now) in
     refuse-rows (s .args .text .now) slices (p6 .if1 .left) (p5 .if2 .left) (p4 .if3 .left) (p3 .if4 .left) (p2 .survey .result .rows) (p2 .survey .result .records) (p2 .survey .result .bad) (c .before .if5 .left) (p2 .survey .ensures) (c .if6 .taken)
-
-mul-if7 : tie.Need-mul-if7
-mul-if7 c = search needs
 
 returns-7 : tie.Need-returns-7
 returns-7 c =
@@ -98,21 +92,6 @@ fill-records-requires c κs =
     let slices = lent (s .args .width .now) (s .args .lock .now) (s .args .mask .now) (s .args .value .now) (s .args .words .now) in
     records-wait (s .args .text .now) slices (p21 .if1 .left) (p20 .if2 .left) (p19 .if3 .left) (p18 .if4 .left) (p17 .survey .result .rows) (p17 .survey .result .records) (p17 .survey .result .bad) (p16 .if5 .left) (p17 .survey .ensures) (p15 .if6 .left) (p14 .if7 .left) (p9 .fill-rows .ensures)
 
-same-length : tie.Need-same-length
-same-length c = search needs
-
-same-length-2 : tie.Need-same-length-2
-same-length-2 c = search needs
-
-same-length-3 : tie.Need-same-length-3
-same-length-3 c = search needs
-
-same-length-4 : tie.Need-same-length-4
-same-length-4 c = search needs
-
-same-length-5 : tie.Need-same-length-5
-same-length-5 c = search needs
-
 returns-8 : tie.Need-returns-8
 returns-8 c =
     let p2 = c .before .before in
@@ -137,16 +116,16 @@ read-spec =
     returns-2
     returns-3
     returns-4
-    survey-requires
+    (λ c κs. search needs)
     returns-5
     returns-6
-    mul-if7
+    (λ c. search needs)
     returns-7
     fill-rows-requires
     fill-records-requires
-    same-length
-    same-length-2
-    same-length-3
-    same-length-4
-    same-length-5
+    (λ c. search needs)
+    (λ c. search needs)
+    (λ c. search needs)
+    (λ c. search needs)
+    (λ c. search needs)
     returns-8)

@@ -9,20 +9,11 @@ use borrow.Author.Needs.{needs}
 use Rattle.checks.proofs.records.check_named.Statement.{statement}
 use Rattle.checks.proofs.records.check_named.Tie as tie
 
-refuse-requires : tie.Need-refuse-requires
-refuse-requires c κs = search needs
-
 returns : tie.Need-returns
 returns c =
     let a = c .before .before .args in
     c .refuse .ensures ∙ sym (by-kind (a .n) (a .kind) (a .t) (a .a) (a .b) (a .p) (a .i)
     (c .before .if1 .taken))
-
-index-requires : tie.Need-index-requires
-index-requires c κs = search needs
-
-refuse-requires-2 : tie.Need-refuse-requires-2
-refuse-requires-2 c κs = search needs
 
 returns-2 : tie.Need-returns-2
 returns-2 c =
@@ -30,12 +21,6 @@ returns-2 c =
     c .refuse2 .ensures ∙ sym (by-target (a .n) (a .kind) (a .t) (a .a) (a .b) (a .p) (a .i)
     (c .before .before .before .if1 .left)
     (subst (λ (x : ℕ). a .n ≤ x) (c .before .before .index .ensures) (c .before .if2 .taken)))
-
-index-requires-2 : tie.Need-index-requires-2
-index-requires-2 c κs = search needs
-
-refuse-requires-3 : tie.Need-refuse-requires-3
-refuse-requires-3 c κs = search needs
 
 returns-3 : tie.Need-returns-3
 returns-3 c =
@@ -45,27 +30,6 @@ returns-3 c =
     (subst (λ (x : ℕ). x < a .n) (c .before .before .before .before .index .ensures) (c .before .before .before .if2 .left))
     (subst (λ (x : ℕ). a .n ≤ x) (c .before .before .index2 .ensures) (c .before .if3 .taken)))
 
-index-requires-3 : tie.Need-index-requires-3
-index-requires-3 c κs = search needs
-
-second-use-requires : tie.Need-second-use-requires
-second-use-requires c κs = search needs
-
-index-requires-4 : tie.Need-index-requires-4
-index-requires-4 c κs = search needs
-
-parameter-use-requires : tie.Need-parameter-use-requires
-parameter-use-requires c κs = search needs
-
-index-requires-5 : tie.Need-index-requires-5
-index-requires-5 c κs = search needs
-
-word-outside-requires : tie.Need-word-outside-requires
-word-outside-requires c κs = search needs
-
-refuse-requires-4 : tie.Need-refuse-requires-4
-refuse-requires-4 c κs = search needs
-
 returns-4 : tie.Need-returns-4
 returns-4 c =
     let a = c .before .before .before .before .before .before .before .before .before .before .before .before .before .args in
@@ -74,15 +38,6 @@ returns-4 c =
     (subst (λ (x : ℕ). x < a .n) (c .before .before .before .before .before .before .before .before .before .before .before .index .ensures) (c .before .before .before .before .before .before .before .before .before .before .if2 .left))
     (subst (λ (x : ℕ). x < a .n) (c .before .before .before .before .before .before .before .before .before .index2 .ensures) (c .before .before .before .before .before .before .before .before .if3 .left))
     (ap (λ (x : ℕ). outside (a .n) (kindOf (a .kind) .use-b) x) (sym (c .before .before .before .index5 .ensures)) ∙ sym (c .before .before .word-outside .ensures (kindOf (a .kind) .use-b) (c .before .before .before .before .before .before .second-use .ensures ∙ ap (λ (x : ℕ). useCode (kindOf x .use-b)) (c .before .before .before .before .before .before .before .index3 .ensures))) ∙ c .before .if4 .taken))
-
-index-requires-6 : tie.Need-index-requires-6
-index-requires-6 c κs = search needs
-
-word-outside-requires-2 : tie.Need-word-outside-requires-2
-word-outside-requires-2 c κs = search needs
-
-refuse-requires-5 : tie.Need-refuse-requires-5
-refuse-requires-5 c κs = search needs
 
 returns-5 : tie.Need-returns-5
 returns-5 c =
@@ -94,12 +49,6 @@ returns-5 c =
     (ap (λ (x : ℕ). outside (a .n) (kindOf (a .kind) .use-b) x) (sym (c .before .before .before .before .before .before .index5 .ensures)) ∙ sym (c .before .before .before .before .before .word-outside .ensures (kindOf (a .kind) .use-b) (c .before .before .before .before .before .before .before .before .before .second-use .ensures ∙ ap (λ (x : ℕ). useCode (kindOf x .use-b)) (c .before .before .before .before .before .before .before .before .before .before .index3 .ensures))) ∙ c .before .before .before .before .if4 .left)
     (ap (λ (x : ℕ). outside (a .n) (kindOf (a .kind) .use-p) x) (sym (c .before .before .before .index6 .ensures)) ∙ sym (c .before .before .word-outside2 .ensures (kindOf (a .kind) .use-p) (c .before .before .before .before .before .before .before .parameter-use .ensures ∙ ap (λ (x : ℕ). useCode (kindOf x .use-p)) (c .before .before .before .before .before .before .before .before .index4 .ensures))) ∙ c .before .if5 .taken))
 
-word-misused-requires : tie.Need-word-misused-requires
-word-misused-requires c κs = search needs
-
-refuse-requires-6 : tie.Need-refuse-requires-6
-refuse-requires-6 c κs = search needs
-
 returns-6 : tie.Need-returns-6
 returns-6 c =
     let a = c .before .before .before .before .before .before .before .before .before .before .before .before .before .before .before .before .before .before .args in
@@ -110,12 +59,6 @@ returns-6 c =
     (ap (λ (x : ℕ). outside (a .n) (kindOf (a .kind) .use-b) x) (sym (c .before .before .before .before .before .before .before .before .index5 .ensures)) ∙ sym (c .before .before .before .before .before .before .before .word-outside .ensures (kindOf (a .kind) .use-b) (c .before .before .before .before .before .before .before .before .before .before .before .second-use .ensures ∙ ap (λ (x : ℕ). useCode (kindOf x .use-b)) (c .before .before .before .before .before .before .before .before .before .before .before .before .index3 .ensures))) ∙ c .before .before .before .before .before .before .if4 .left)
     (ap (λ (x : ℕ). outside (a .n) (kindOf (a .kind) .use-p) x) (sym (c .before .before .before .before .before .index6 .ensures)) ∙ sym (c .before .before .before .before .word-outside2 .ensures (kindOf (a .kind) .use-p) (c .before .before .before .before .before .before .before .before .before .parameter-use .ensures ∙ ap (λ (x : ℕ). useCode (kindOf x .use-p)) (c .before .before .before .before .before .before .before .before .before .before .index4 .ensures))) ∙ c .before .before .before .if5 .left)
     (sym (c .before .before .word-misused .ensures (kindOf (a .kind) .use-b) (c .before .before .before .before .before .before .before .before .before .before .before .second-use .ensures ∙ ap (λ (x : ℕ). useCode (kindOf x .use-b)) (c .before .before .before .before .before .before .before .before .before .before .before .before .index3 .ensures))) ∙ c .before .if6 .taken))
-
-word-misused-requires-2 : tie.Need-word-misused-requires-2
-word-misused-requires-2 c κs = search needs
-
-refuse-requires-7 : tie.Need-refuse-requires-7
-refuse-requires-7 c κs = search needs
 
 returns-7 : tie.Need-returns-7
 returns-7 c =
@@ -145,30 +88,30 @@ pub check-named-spec : {M : Type 1} → statement M
 check-named-spec =
     tie.close
     (tie.spec
-    refuse-requires
+    (λ c κs. search needs)
     returns
-    index-requires
-    refuse-requires-2
+    (λ c κs. search needs)
+    (λ c κs. search needs)
     returns-2
-    index-requires-2
-    refuse-requires-3
+    (λ c κs. search needs)
+    (λ c κs. search needs)
     returns-3
-    index-requires-3
-    second-use-requires
-    index-requires-4
-    parameter-use-requires
-    index-requires-5
-    word-outside-requires
-    refuse-requires-4
+    (λ c κs. search needs)
+    (λ c κs. search needs)
+    (λ c κs. search needs)
+    (λ c κs. search needs)
+    (λ c κs. search needs)
+    (λ c κs. search needs)
+    (λ c κs. search needs)
     returns-4
-    index-requires-6
-    word-outside-requires-2
-    refuse-requires-5
+    (λ c κs. search needs)
+    (λ c κs. search needs)
+    (λ c κs. search needs)
     returns-5
-    word-misused-requires
-    refuse-requires-6
+    (λ c κs. search needs)
+    (λ c κs. search needs)
     returns-6
-    word-misused-requires-2
-    refuse-requires-7
+    (λ c κs. search needs)
+    (λ c κs. search needs)
     returns-7
     returns-8)

@@ -18,54 +18,6 @@ use borrow.Author.Needs.{needs}
 use Rattle.checks.proofs.records.check_one.Statement.{statement}
 use Rattle.checks.proofs.records.check_one.Tie as tie
 
-mul-k : tie.Need-mul-k
-mul-k c = search needs
-
-mul-kind : tie.Need-mul-kind
-mul-kind c = search needs
-
-shared-slice-read-kind : tie.Need-shared-slice-read-kind
-shared-slice-read-kind c = search needs
-
-add-t : tie.Need-add-t
-add-t c = search needs
-
-mul-t : tie.Need-mul-t
-mul-t c = search needs
-
-shared-slice-read-t : tie.Need-shared-slice-read-t
-shared-slice-read-t c = search needs
-
-add-a : tie.Need-add-a
-add-a c = search needs
-
-mul-a : tie.Need-mul-a
-mul-a c = search needs
-
-shared-slice-read-a : tie.Need-shared-slice-read-a
-shared-slice-read-a c = search needs
-
-add-b : tie.Need-add-b
-add-b c = search needs
-
-mul-b : tie.Need-mul-b
-mul-b c = search needs
-
-shared-slice-read-b : tie.Need-shared-slice-read-b
-shared-slice-read-b c = search needs
-
-add-p : tie.Need-add-p
-add-p c = search needs
-
-mul-p : tie.Need-mul-p
-mul-p c = search needs
-
-shared-slice-read-p : tie.Need-shared-slice-read-p
-shared-slice-read-p c = search needs
-
-check-record-requires : tie.Need-check-record-requires
-check-record-requires c κs = search needs
-
 -- what the record's own verdict says of the words that are lent
 found : (c : tie.After-check-record) →
     let a = c .before .before .before .before .before .before .before .before .before .args in
@@ -83,9 +35,6 @@ returns c =
     let a = c .before .before .before .before .before .before .before .before .before .before .before .args in
     ap meant (c .enum-told .given .1)
     ∙ sym (stops (c .before .before .check-record .result) (placed (a .i) (recordFaults (a .width .now) (recordOf (lent (a .width .now) (a .lock .now) [] [] (a .words .now)) (a .i)))) (lockWith (a .locked) (a .lock .now) (recordOf (lent (a .width .now) (a .lock .now) [] [] (a .words .now)) (a .i)) (a .i)) (found (c .before .before)) _ (c .enum-told .given .1))
-
-enum-told-2 : tie.Need-enum-told-2
-enum-told-2 c = search needs
 
 check-lock-requires : tie.Need-check-lock-requires
 check-lock-requires c κs =
@@ -105,24 +54,24 @@ pub check-one-spec : {M : Type 1} → statement M
 check-one-spec =
     tie.close
     (tie.spec
-    mul-k
-    mul-kind
-    shared-slice-read-kind
-    add-t
-    mul-t
-    shared-slice-read-t
-    add-a
-    mul-a
-    shared-slice-read-a
-    add-b
-    mul-b
-    shared-slice-read-b
-    add-p
-    mul-p
-    shared-slice-read-p
-    check-record-requires
+    (λ c. search needs)
+    (λ c. search needs)
+    (λ c. search needs)
+    (λ c. search needs)
+    (λ c. search needs)
+    (λ c. search needs)
+    (λ c. search needs)
+    (λ c. search needs)
+    (λ c. search needs)
+    (λ c. search needs)
+    (λ c. search needs)
+    (λ c. search needs)
+    (λ c. search needs)
+    (λ c. search needs)
+    (λ c. search needs)
+    (λ c κs. search needs)
     enum-told
     returns
-    enum-told-2
+    (λ c. search needs)
     check-lock-requires
     returns-2)

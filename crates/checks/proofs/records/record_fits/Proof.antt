@@ -11,23 +11,11 @@ use borrow.Author.Needs.{needs}
 use Rattle.checks.proofs.records.record_fits.Statement.{statement}
 use Rattle.checks.proofs.records.record_fits.Tie as tie
 
-index-requires : tie.Need-index-requires
-index-requires c κs = search needs
-
-index-requires-2 : tie.Need-index-requires-2
-index-requires-2 c κs = search needs
-
-index-requires-3 : tie.Need-index-requires-3
-index-requires-3 c κs = search needs
-
 shared-slice-read-wide : tie.Need-shared-slice-read-wide
 shared-slice-read-wide c =
     let a = c .before .before .before .before .before .args in
     let n = named-facts (length (a .width .now)) (a .kind) (a .t) (a .a) (a .b) (a .p) (c .before .before .before .before .before .pre) in
     let e = c .before .before .index2 .ensures in let h = n .target-in in omega arith
-
-wide-requires : tie.Need-wide-requires
-wide-requires c κs = search needs
 
 shared-slice-read-wide-2 : tie.Need-shared-slice-read-wide-2
 shared-slice-read-wide-2 c =
@@ -35,17 +23,11 @@ shared-slice-read-wide-2 c =
     let n = named-facts (length (a .width .now)) (a .kind) (a .t) (a .a) (a .b) (a .p) (c .before .before .before .before .before .before .before .pre) in
     let e = c .before .before .before .index3 .ensures in let h = n .first-in in omega arith
 
-wide-requires-2 : tie.Need-wide-requires-2
-wide-requires-2 c κs = search needs
-
 second-use-requires : tie.Need-second-use-requires
 second-use-requires c κs =
     let a = c .before .before .before .before .before .before .before .before .args in
     let n = named-facts (length (a .width .now)) (a .kind) (a .t) (a .a) (a .b) (a .p) (c .before .before .before .before .before .before .before .before .pre) in
     let e = c .before .before .before .before .before .before .index .ensures in let h = n .kind-below-21 in omega arith
-
-index-requires-4 : tie.Need-index-requires-4
-index-requires-4 c κs = search needs
 
 used-width-requires : tie.Need-used-width-requires
 used-width-requires c κs =
@@ -58,9 +40,6 @@ parameter-use-requires c κs =
     let a = c .before .before .before .before .before .before .before .before .before .before .before .args in
     let n = named-facts (length (a .width .now)) (a .kind) (a .t) (a .a) (a .b) (a .p) (c .before .before .before .before .before .before .before .before .before .before .before .pre) in
     let e = c .before .before .before .before .before .before .before .before .before .index .ensures in let h = n .kind-below-21 in omega arith
-
-index-requires-5 : tie.Need-index-requires-5
-index-requires-5 c κs = search needs
 
 used-width-requires-2 : tie.Need-used-width-requires-2
 used-width-requires-2 c κs =
@@ -96,18 +75,18 @@ pub record-fits-spec : {M : Type 1} → statement M
 record-fits-spec =
     tie.close
     (tie.spec
-    index-requires
-    index-requires-2
-    index-requires-3
+    (λ c κs. search needs)
+    (λ c κs. search needs)
+    (λ c κs. search needs)
     shared-slice-read-wide
-    wide-requires
+    (λ c κs. search needs)
     shared-slice-read-wide-2
-    wide-requires-2
+    (λ c κs. search needs)
     second-use-requires
-    index-requires-4
+    (λ c κs. search needs)
     used-width-requires
     parameter-use-requires
-    index-requires-5
+    (λ c κs. search needs)
     used-width-requires-2
     widths-fit-requires
     returns)

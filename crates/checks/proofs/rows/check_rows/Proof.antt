@@ -26,30 +26,6 @@ abbrev μ-loop : tie.MeasureT-loop
 loop-holds : tie.Need-loop-holds Inv-loop μ-loop
 loop-holds c = let a = c .before .before .before .before .args in (omega arith, rest-start (faults (a .width .now) (a .lock .now) (a .mask .now) (a .value .now)) (length (a .width .now)))
 
-shared-slice-read-wide : tie.Need-shared-slice-read-wide Inv-loop μ-loop
-shared-slice-read-wide c = omega arith
-
-wide-requires : tie.Need-wide-requires Inv-loop μ-loop
-wide-requires c κs = search needs
-
-shared-slice-read-check-row : tie.Need-shared-slice-read-check-row Inv-loop μ-loop
-shared-slice-read-check-row c = omega arith
-
-mul-check-row : tie.Need-mul-check-row Inv-loop μ-loop
-mul-check-row c = omega arith
-
-shared-slice-read-check-row-2 : tie.Need-shared-slice-read-check-row-2 Inv-loop μ-loop
-shared-slice-read-check-row-2 c = omega arith
-
-mul-check-row-2 : tie.Need-mul-check-row-2 Inv-loop μ-loop
-mul-check-row-2 c = omega arith
-
-shared-slice-read-check-row-3 : tie.Need-shared-slice-read-check-row-3 Inv-loop μ-loop
-shared-slice-read-check-row-3 c = omega arith
-
-check-row-requires : tie.Need-check-row-requires Inv-loop μ-loop
-check-row-requires c κs = search needs
-
 -- what the row's own verdict says of the rows that are lent
 found : (c : tie.After-check-row Inv-loop μ-loop) →
     let a = c .before .before .before .before .before .before .before .before .before .before .before .before .args in
@@ -58,12 +34,6 @@ found c =
     let a = c .before .before .before .before .before .before .before .before .before .before .before .before .args in
     let i = c .before .before .before .before .before .before .before .loop .i in
     c .check-row .ensures ∙ ap (λ (w : ℕ). judged (placed i (rowFaults w (getD (a .lock .now) i 0) (getD (a .mask .now) i 0) (getD (a .value .now) i 0)))) (c .before .before .before .before .wide .ensures)
-
-enum-told : tie.Need-enum-told Inv-loop μ-loop
-enum-told c = search needs
-
-enum-told-2 : tie.Need-enum-told-2 Inv-loop μ-loop
-enum-told-2 c = search needs
 
 returns : tie.Need-returns Inv-loop μ-loop
 returns c =
@@ -74,12 +44,6 @@ returns c =
     let n = length (a .width .now) in
     ap meant (c .enum-told2 .given .1)
     ∙ sym (l .inv .1 ∙ rest-step f n (l .i) h ∙ stops (c .before .before .check-row .result) (f (l .i)) (rising f (l .i + 1) (n - (l .i + 1))) (found (c .before .before)) _ (c .enum-told2 .given .1))
-
-add-i : tie.Need-add-i Inv-loop μ-loop
-add-i c = omega arith
-
-loop-less : tie.Need-loop-less Inv-loop μ-loop
-loop-less c = omega arith
 
 loop-again : tie.Need-loop-again Inv-loop μ-loop
 loop-again c =
@@ -104,18 +68,18 @@ check-rows-spec =
     Inv-loop
     μ-loop
     loop-holds
-    shared-slice-read-wide
-    wide-requires
-    shared-slice-read-check-row
-    mul-check-row
-    shared-slice-read-check-row-2
-    mul-check-row-2
-    shared-slice-read-check-row-3
-    check-row-requires
-    enum-told
-    enum-told-2
+    (λ c. omega arith)
+    (λ c κs. search needs)
+    (λ c. omega arith)
+    (λ c. omega arith)
+    (λ c. omega arith)
+    (λ c. omega arith)
+    (λ c. omega arith)
+    (λ c κs. search needs)
+    (λ c. search needs)
+    (λ c. search needs)
     returns
-    add-i
-    loop-less
+    (λ c. omega arith)
+    (λ c. omega arith)
     loop-again
     returns-2)

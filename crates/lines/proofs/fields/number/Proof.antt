@@ -16,9 +16,6 @@ abbrev μ-loop : tie.MeasureT-loop
 returns : tie.Need-returns Inv-loop μ-loop
 returns c = too-short (c .before .before .args .f .now) (c .if1 .taken)
 
-shared-slice-read-if2 : tie.Need-shared-slice-read-if2 Inv-loop μ-loop
-shared-slice-read-if2 c = omega arith
-
 returns-2 : tie.Need-returns-2 Inv-loop μ-loop
 returns-2 c = just-zero (c .before .before .before .before .before .args .f .now) (c .before .if2 .taken) (c .if3 .taken)
 
@@ -27,12 +24,6 @@ returns-3 c = leading-zero (c .before .before .before .before .before .args .f .
 
 loop-holds : tie.Need-loop-holds Inv-loop μ-loop
 loop-holds c = (refl, omega arith, begin (c .before .before .before .before .args .f .now))
-
-shared-slice-read-wide : tie.Need-shared-slice-read-wide Inv-loop μ-loop
-shared-slice-read-wide c = omega arith
-
-wide-requires : tie.Need-wide-requires Inv-loop μ-loop
-wide-requires c κs = tt
 
 returns-4 : tie.Need-returns-4 Inv-loop μ-loop
 returns-4 c =
@@ -62,12 +53,6 @@ returns-6 c =
     let b = p3 .wide in
     too-great (p11 .args .f .now) (i .i) (i .n) (b .result) (omega arith) (b .ensures) (omega arith) (omega arith) (i .inv .2) (c .if6 .taken)
 
-add-i : tie.Need-add-i Inv-loop μ-loop
-add-i c = omega arith
-
-loop-less : tie.Need-loop-less Inv-loop μ-loop
-loop-less c = omega arith
-
 loop-again : tie.Need-loop-again Inv-loop μ-loop
 loop-again c =
     let p3 = c .before .before .before in
@@ -91,18 +76,18 @@ number-spec =
     Inv-loop
     μ-loop
     returns
-    shared-slice-read-if2
+    (λ c. omega arith)
     returns-2
     returns-3
     loop-holds
-    shared-slice-read-wide
-    wide-requires
+    (λ c. omega arith)
+    (λ c κs. tt)
     returns-4
     returns-5
     mul-n
     add-n
     returns-6
-    add-i
-    loop-less
+    (λ c. omega arith)
+    (λ c. omega arith)
     loop-again
     returns-7)

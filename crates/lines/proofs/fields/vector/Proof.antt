@@ -23,12 +23,6 @@ returns-2 c = too-long (c .before .before .before .args .f .now) (c .if2 .taken)
 loop-holds : tie.Need-loop-holds Inv-loop μ-loop
 loop-holds c = (refl, omega arith, begin (c .before .before .before .args .f .now))
 
-shared-slice-read-b : tie.Need-shared-slice-read-b Inv-loop μ-loop
-shared-slice-read-b c = omega arith
-
-is-letter-requires : tie.Need-is-letter-requires Inv-loop μ-loop
-is-letter-requires c κs = tt
-
 returns-3 : tie.Need-returns-3 Inv-loop μ-loop
 returns-3 c =
     let p4 = c .before .before .before .before in
@@ -39,9 +33,6 @@ mul-m : tie.Need-mul-m Inv-loop μ-loop
 mul-m c =
     let p4 = c .before .before .before .before in
     let i = p4 .loop in omega (arith, fits-word (i .i) (i .m) 0 (i .inv .2 .mask-below) (omega arith) (omega arith))
-
-mask-bit-requires : tie.Need-mask-bit-requires Inv-loop μ-loop
-mask-bit-requires c κs = tt
 
 add-m : tie.Need-add-m Inv-loop μ-loop
 add-m c =
@@ -54,20 +45,11 @@ mul-v c =
     let p5 = c .before .before .before .before .before in
     let i = p5 .loop in omega (arith, fits-word (i .i) (i .v) 0 (i .inv .2 .value-below) (omega arith) (omega arith))
 
-value-bit-requires : tie.Need-value-bit-requires Inv-loop μ-loop
-value-bit-requires c κs = tt
-
 add-v : tie.Need-add-v Inv-loop μ-loop
 add-v c =
     let p6 = c .before .before .before .before .before .before in
     let p10 = p6 .before .before .before .before in
     let i = p6 .loop in omega (arith, fits-word (i .i) (i .v) (c .value-bit .result) (i .inv .2 .value-below) (omega arith) (value-lt (getD (p10 .args .f .now) (i .i) 0) (c .value-bit .result) (c .value-bit .ensures)))
-
-add-i : tie.Need-add-i Inv-loop μ-loop
-add-i c = omega arith
-
-loop-less : tie.Need-loop-less Inv-loop μ-loop
-loop-less c = omega arith
 
 loop-again : tie.Need-loop-again Inv-loop μ-loop
 loop-again c =
@@ -82,9 +64,6 @@ loop-again c =
       more (p10 .args .f .now) (i .i) (i .m) (i .v) (c .before .mask-bit .result) (c .value-bit .result) (r .result) (omega arith) (r .ensures) (not-false (r .result) (p2 .if3 .left))
           (c .before .mask-bit .ensures) (c .value-bit .ensures) (i .inv .2),
     )
-
-cast-t14 : tie.Need-cast-t14 Inv-loop μ-loop
-cast-t14 c = omega arith
 
 returns-4 : tie.Need-returns-4 Inv-loop μ-loop
 returns-4 c =
@@ -102,17 +81,17 @@ vector-spec =
     returns
     returns-2
     loop-holds
-    shared-slice-read-b
-    is-letter-requires
+    (λ c. omega arith)
+    (λ c κs. tt)
     returns-3
     mul-m
-    mask-bit-requires
+    (λ c κs. tt)
     add-m
     mul-v
-    value-bit-requires
+    (λ c κs. tt)
     add-v
-    add-i
-    loop-less
+    (λ c. omega arith)
+    (λ c. omega arith)
     loop-again
-    cast-t14
+    (λ c. omega arith)
     returns-4)

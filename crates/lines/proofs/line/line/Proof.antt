@@ -13,18 +13,6 @@ use borrow.Author.Needs.{needs}
 use Rattle.lines.proofs.line.line.Statement.{statement}
 use Rattle.lines.proofs.line.line.Tie as tie
 
-count-parts-requires : tie.Need-count-parts-requires
-count-parts-requires c κs = search needs
-
-part-requires : tie.Need-part-requires
-part-requires c κs = search needs
-
-slice-aggregate-is-word : tie.Need-slice-aggregate-is-word
-slice-aggregate-is-word c = search needs
-
-is-word-requires : tie.Need-is-word-requires
-is-word-requires c κs = search needs
-
 returns : tie.Need-returns
 returns c =
     let p2 = c .before .before in
@@ -35,15 +23,6 @@ returns c =
     let head = part-bytes (lies (ptr (p7 .args .l)) (now (p7 .args .l))) (lies (ptr (p4 .part .result)) (now (p4 .part .result))) tab 1 (p4 .part .ensures) in
     let is-row = p2 .is-word .ensures ∙ ap (λ (x : List ℕ). same x rowWord) head in
     line-short-row (pieces tab l) (p2 .is-word .result) _ is-row refl (c .before .if1 .taken) (λ e. c .if2 .taken (p5 .count-parts .ensures ∙ e))
-
-part-requires-2 : tie.Need-part-requires-2
-part-requires-2 c κs = search needs
-
-part-requires-3 : tie.Need-part-requires-3
-part-requires-3 c κs = search needs
-
-row-line-requires : tie.Need-row-line-requires
-row-line-requires c κs = search needs
 
 returns-2 : tie.Need-returns-2
 returns-2 c =
@@ -62,12 +41,6 @@ returns-2 c =
     line-row (pieces tab l) (p5 .is-word .result) _ is-row refl (p4 .if1 .taken) (sym (p8 .count-parts .ensures) ∙ p3 .if2 .left)
     _ _ lock letters (lineMeant (c .row-line .result)) (c .row-line .ensures)
 
-slice-aggregate-is-word-2 : tie.Need-slice-aggregate-is-word-2
-slice-aggregate-is-word-2 c = search needs
-
-is-word-requires-2 : tie.Need-is-word-requires-2
-is-word-requires-2 c κs = search needs
-
 returns-3 : tie.Need-returns-3
 returns-3 c =
     let p2 = c .before .before in
@@ -81,24 +54,6 @@ returns-3 c =
     let is-row = p5 .is-word .ensures ∙ ap (λ (x : List ℕ). same x rowWord) head in
     let is-op = p2 .is-word2 .ensures ∙ ap (λ (x : List ℕ). same x opWord) head in
     line-short-record (pieces tab l) (p5 .is-word .result) (p2 .is-word2 .result) is-row is-op (p4 .if1 .left) (c .before .if3 .taken) (λ e. c .if4 .taken (p8 .count-parts .ensures ∙ e))
-
-part-requires-4 : tie.Need-part-requires-4
-part-requires-4 c κs = search needs
-
-part-requires-5 : tie.Need-part-requires-5
-part-requires-5 c κs = search needs
-
-part-requires-6 : tie.Need-part-requires-6
-part-requires-6 c κs = search needs
-
-part-requires-7 : tie.Need-part-requires-7
-part-requires-7 c κs = search needs
-
-part-requires-8 : tie.Need-part-requires-8
-part-requires-8 c κs = search needs
-
-record-line-requires : tie.Need-record-line-requires
-record-line-requires c κs = search needs
 
 returns-4 : tie.Need-returns-4
 returns-4 c =
@@ -142,23 +97,23 @@ pub line-spec : {M : Type 1} → statement M
 line-spec =
     tie.close
     (tie.spec
-    count-parts-requires
-    part-requires
-    slice-aggregate-is-word
-    is-word-requires
+    (λ c κs. search needs)
+    (λ c κs. search needs)
+    (λ c. search needs)
+    (λ c κs. search needs)
     returns
-    part-requires-2
-    part-requires-3
-    row-line-requires
+    (λ c κs. search needs)
+    (λ c κs. search needs)
+    (λ c κs. search needs)
     returns-2
-    slice-aggregate-is-word-2
-    is-word-requires-2
+    (λ c. search needs)
+    (λ c κs. search needs)
     returns-3
-    part-requires-4
-    part-requires-5
-    part-requires-6
-    part-requires-7
-    part-requires-8
-    record-line-requires
+    (λ c κs. search needs)
+    (λ c κs. search needs)
+    (λ c κs. search needs)
+    (λ c κs. search needs)
+    (λ c κs. search needs)
+    (λ c κs. search needs)
     returns-4
     returns-5)

@@ -9,9 +9,6 @@ use borrow.Author.Needs.{needs}
 use Rattle.lines.proofs.put.put_record.Statement.{statement}
 use Rattle.lines.proofs.put.put_record.Tie as tie
 
-slice-aggregate-put-word : tie.Need-slice-aggregate-put-word
-slice-aggregate-put-word c = search needs
-
 put-word-requires : tie.Need-put-word-requires
 put-word-requires c κs =
     let s = c .before .before .before in
@@ -128,9 +125,6 @@ put-byte-requires c κs =
     let w₆ = step (lf ∷ []) w₅ (p3 .put-next4 .ensures) in
     room (lf ∷ []) [] (s .pre .1) w₆
 
-same-length : tie.Need-same-length
-same-length c = search needs
-
 returns : tie.Need-returns
 returns c =
     let p2 = c .before .before in
@@ -160,7 +154,7 @@ pub put-record-spec : {M : Type 1} → statement M
 put-record-spec =
     tie.close
     (tie.spec
-    slice-aggregate-put-word
+    (λ c. search needs)
     put-word-requires
     put-name-requires
     put-next-requires
@@ -168,5 +162,5 @@ put-record-spec =
     put-next-requires-3
     put-next-requires-4
     put-byte-requires
-    same-length
+    (λ c. search needs)
     returns)

@@ -8,9 +8,6 @@ use borrow.Author.Needs.{needs}
 use Rattle.lines.proofs.put.put_row.Statement.{statement}
 use Rattle.lines.proofs.put.put_row.Tie as tie
 
-slice-aggregate-put-word : tie.Need-slice-aggregate-put-word
-slice-aggregate-put-word c = search needs
-
 put-word-requires : tie.Need-put-word-requires
 put-word-requires c κs =
     let s = c .before .before .before in
@@ -78,9 +75,6 @@ put-byte-requires-2 c κs =
     let w₄ = step (lf ∷ []) w₃ (p3 .put-letters .ensures) in
     room (lf ∷ []) [] (s .pre .1) w₄
 
-same-length : tie.Need-same-length
-same-length c = search needs
-
 returns : tie.Need-returns
 returns c =
     let p2 = c .before .before in
@@ -105,11 +99,11 @@ pub put-row-spec : {M : Type 1} → statement M
 put-row-spec =
     tie.close
     (tie.spec
-    slice-aggregate-put-word
+    (λ c. search needs)
     put-word-requires
     put-lock-requires
     put-byte-requires
     put-letters-requires
     put-byte-requires-2
-    same-length
+    (λ c. search needs)
     returns)

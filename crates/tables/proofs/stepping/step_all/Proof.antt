@@ -24,62 +24,11 @@ loop-holds : tie.Need-loop-holds Inv-loop μ-loop
 unfolding after
 loop-holds c = (refl, refl, omega arith, refl)
 
-mul-k : tie.Need-mul-k Inv-loop μ-loop
-mul-k c = omega arith
-
-mul-step : tie.Need-mul-step Inv-loop μ-loop
-mul-step c = omega arith
-
-shared-slice-read-step : tie.Need-shared-slice-read-step Inv-loop μ-loop
-shared-slice-read-step c = omega arith
-
-add-step : tie.Need-add-step Inv-loop μ-loop
-add-step c = omega arith
-
-mul-step-2 : tie.Need-mul-step-2 Inv-loop μ-loop
-mul-step-2 c = omega arith
-
-shared-slice-read-step-2 : tie.Need-shared-slice-read-step-2 Inv-loop μ-loop
-shared-slice-read-step-2 c = omega arith
-
-add-step-2 : tie.Need-add-step-2 Inv-loop μ-loop
-add-step-2 c = omega arith
-
-mul-step-3 : tie.Need-mul-step-3 Inv-loop μ-loop
-mul-step-3 c = omega arith
-
-shared-slice-read-step-3 : tie.Need-shared-slice-read-step-3 Inv-loop μ-loop
-shared-slice-read-step-3 c = omega arith
-
-add-step-3 : tie.Need-add-step-3 Inv-loop μ-loop
-add-step-3 c = omega arith
-
-mul-step-4 : tie.Need-mul-step-4 Inv-loop μ-loop
-mul-step-4 c = omega arith
-
-shared-slice-read-step-4 : tie.Need-shared-slice-read-step-4 Inv-loop μ-loop
-shared-slice-read-step-4 c = omega arith
-
-add-step-4 : tie.Need-add-step-4 Inv-loop μ-loop
-add-step-4 c = omega arith
-
-mul-step-5 : tie.Need-mul-step-5 Inv-loop μ-loop
-mul-step-5 c = omega arith
-
-shared-slice-read-step-5 : tie.Need-shared-slice-read-step-5 Inv-loop μ-loop
-shared-slice-read-step-5 c = omega arith
-
 step-requires : tie.Need-step-requires Inv-loop μ-loop
 step-requires c κs =
     let a = c .before .before .before .before .before .before .before .before .before .before .before .before .before .args in
     let l = c .before .before .before .before .before .before .before .before .loop in
     turn-ready (a .width .now) (a .words .now) (held (a .mask .now) (a .value .now)) (c .before .before .before .before .before .before .before .before .before .before .before .before .before .pre) (l .i) (c .before .before .before .before .before .before .before .loop-test .taken) (held (l .mask) (l .value)) (l .inv .3)
-
-add-i : tie.Need-add-i Inv-loop μ-loop
-add-i c = omega arith
-
-loop-less : tie.Need-loop-less Inv-loop μ-loop
-loop-less c = omega arith
 
 loop-again : tie.Need-loop-again Inv-loop μ-loop
 loop-again c =
@@ -89,12 +38,6 @@ loop-again c =
     let n = turn-next (a .width .now) (a .words .now) (held (a .mask .now) (a .value .now)) R (l .i) (c .before .before .before .before .before .before .before .before .before .before .before .before .loop-test .taken) (held (l .mask) (l .value)) _ (l .inv .3) (c .before .before .before .before .step .ensures) in
     let f = at-fits (a .width .now) (a .words .now) (held (a .mask .now) (a .value .now)) R (l .i + 1) _ n in
     (f .masks-length ∙ sym (R .fits .masks-length), f .values-length ∙ sym (R .fits .values-length), omega arith, n)
-
-same-length : tie.Need-same-length Inv-loop μ-loop
-same-length c = search needs
-
-same-length-2 : tie.Need-same-length-2 Inv-loop μ-loop
-same-length-2 c = search needs
 
 returns : tie.Need-returns Inv-loop μ-loop
 returns c =
@@ -108,25 +51,25 @@ step-all-spec =
     Inv-loop
     μ-loop
     loop-holds
-    mul-k
-    mul-step
-    shared-slice-read-step
-    add-step
-    mul-step-2
-    shared-slice-read-step-2
-    add-step-2
-    mul-step-3
-    shared-slice-read-step-3
-    add-step-3
-    mul-step-4
-    shared-slice-read-step-4
-    add-step-4
-    mul-step-5
-    shared-slice-read-step-5
+    (λ c. omega arith)
+    (λ c. omega arith)
+    (λ c. omega arith)
+    (λ c. omega arith)
+    (λ c. omega arith)
+    (λ c. omega arith)
+    (λ c. omega arith)
+    (λ c. omega arith)
+    (λ c. omega arith)
+    (λ c. omega arith)
+    (λ c. omega arith)
+    (λ c. omega arith)
+    (λ c. omega arith)
+    (λ c. omega arith)
+    (λ c. omega arith)
     step-requires
-    add-i
-    loop-less
+    (λ c. omega arith)
+    (λ c. omega arith)
     loop-again
-    same-length
-    same-length-2
+    (λ c. search needs)
+    (λ c. search needs)
     returns)

@@ -21,20 +21,8 @@ loop-holds c = let s = c .before .before in begin (s .args .text .now) (s .args 
 end-of-requires : tie.Need-end-of-requires Inv-loop μ-loop
 end-of-requires c κs = c .before .loop .inv .inside
 
-sub-line : tie.Need-sub-line Inv-loop μ-loop
-sub-line c = omega arith
-
-part-line-start : tie.Need-part-line-start Inv-loop μ-loop
-part-line-start c = omega arith
-
 part-line-end : tie.Need-part-line-end Inv-loop μ-loop
 part-line-end c = omega (arith, c .end-of .ensures .1)
-
-line-requires : tie.Need-line-requires Inv-loop μ-loop
-line-requires c κs = tt
-
-enum-told : tie.Need-enum-told Inv-loop μ-loop
-enum-told c = search needs
 
 same-length : tie.Need-same-length Inv-loop μ-loop
 same-length c = kept (c .before .before .before .before .before .before .loop .inv)
@@ -47,9 +35,6 @@ returns c =
     let p6 = p5 .before in
     absurd (no-row (p6 .loop .inv) (p4 .end-of .result) (p4 .end-of .ensures .0) (p5 .loop-test .taken) (lineMeant (p2 .line .result)) (p2 .line .ensures) _ (ap lineMeant (c .enum-told .given .1)))
 
-enum-known-f : tie.Need-enum-known-f Inv-loop μ-loop
-enum-known-f c = search needs
-
 -- the record's five words are in the slice
 space : (c : tie.After-known-told Inv-loop μ-loop) → let l = c .before .before .before .before .before .before .before .loop in l .i + 5 ≤ length (l .words)
 space c =
@@ -58,17 +43,11 @@ space c =
     let p10 = p7 .before .before .before in
     room (p7 .loop .inv) (p6 .loop-test .taken) (p10 .pre .words-hold)
 
-mul-words : tie.Need-mul-words Inv-loop μ-loop
-mul-words c = search needs
-
 slice-write-words : tie.Need-slice-write-words Inv-loop μ-loop
 slice-write-words c = omega (arith, space c)
 
 add-words : tie.Need-add-words Inv-loop μ-loop
 add-words c = omega (arith, space c)
-
-mul-words-2 : tie.Need-mul-words-2 Inv-loop μ-loop
-mul-words-2 c = search needs
 
 slice-write-words-2 : tie.Need-slice-write-words-2 Inv-loop μ-loop
 slice-write-words-2 c = simp length-set (omega (arith, space c))
@@ -76,17 +55,11 @@ slice-write-words-2 c = simp length-set (omega (arith, space c))
 add-words-2 : tie.Need-add-words-2 Inv-loop μ-loop
 add-words-2 c = omega (arith, space c)
 
-mul-words-3 : tie.Need-mul-words-3 Inv-loop μ-loop
-mul-words-3 c = search needs
-
 slice-write-words-3 : tie.Need-slice-write-words-3 Inv-loop μ-loop
 slice-write-words-3 c = simp length-set (omega (arith, space c))
 
 add-words-3 : tie.Need-add-words-3 Inv-loop μ-loop
 add-words-3 c = omega (arith, space c)
-
-mul-words-4 : tie.Need-mul-words-4 Inv-loop μ-loop
-mul-words-4 c = search needs
 
 slice-write-words-4 : tie.Need-slice-write-words-4 Inv-loop μ-loop
 slice-write-words-4 c = simp length-set (omega (arith, space c))
@@ -94,14 +67,8 @@ slice-write-words-4 c = simp length-set (omega (arith, space c))
 add-words-4 : tie.Need-add-words-4 Inv-loop μ-loop
 add-words-4 c = omega (arith, space c)
 
-mul-words-5 : tie.Need-mul-words-5 Inv-loop μ-loop
-mul-words-5 c = search needs
-
 slice-write-words-5 : tie.Need-slice-write-words-5 Inv-loop μ-loop
 slice-write-words-5 c = simp length-set (omega (arith, space c))
-
-enum-told-2 : tie.Need-enum-told-2 Inv-loop μ-loop
-enum-told-2 c = search needs
 
 same-length-2 : tie.Need-same-length-2 Inv-loop μ-loop
 same-length-2 c = kept (c .before .before .before .before .before .before .loop .inv)
@@ -123,12 +90,6 @@ add-at c =
 
 add-i : tie.Need-add-i Inv-loop μ-loop
 add-i c = omega (arith, space c)
-
-add-k : tie.Need-add-k Inv-loop μ-loop
-add-k c = omega arith
-
-loop-less : tie.Need-loop-less Inv-loop μ-loop
-loop-less c = omega arith
 
 loop-again : tie.Need-loop-again Inv-loop μ-loop
 loop-again c =
@@ -152,35 +113,35 @@ fill-records-spec =
     μ-loop
     loop-holds
     end-of-requires
-    sub-line
-    part-line-start
+    (λ c. omega arith)
+    (λ c. omega arith)
     part-line-end
-    line-requires
-    enum-told
+    (λ c κs. tt)
+    (λ c. search needs)
     same-length
     returns
-    enum-known-f
-    mul-words
+    (λ c. search needs)
+    (λ c. search needs)
     slice-write-words
     add-words
-    mul-words-2
+    (λ c. search needs)
     slice-write-words-2
     add-words-2
-    mul-words-3
+    (λ c. search needs)
     slice-write-words-3
     add-words-3
-    mul-words-4
+    (λ c. search needs)
     slice-write-words-4
     add-words-4
-    mul-words-5
+    (λ c. search needs)
     slice-write-words-5
-    enum-told-2
+    (λ c. search needs)
     same-length-2
     returns-2
     add-at
     add-i
-    add-k
-    loop-less
+    (λ c. omega arith)
+    (λ c. omega arith)
     loop-again
     same-length-3
     returns-3)

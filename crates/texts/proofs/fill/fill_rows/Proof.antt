@@ -22,20 +22,8 @@ loop-holds c =
 end-of-requires : tie.Need-end-of-requires Inv-loop μ-loop
 end-of-requires c κs = c .before .loop .inv .0 .inside
 
-sub-line : tie.Need-sub-line Inv-loop μ-loop
-sub-line c = omega arith
-
-part-line-start : tie.Need-part-line-start Inv-loop μ-loop
-part-line-start c = omega arith
-
 part-line-end : tie.Need-part-line-end Inv-loop μ-loop
 part-line-end c = omega (arith, c .end-of .ensures .1)
-
-line-requires : tie.Need-line-requires Inv-loop μ-loop
-line-requires c κs = tt
-
-enum-known-f : tie.Need-enum-known-f Inv-loop μ-loop
-enum-known-f c = search needs
 
 cast-width : tie.Need-cast-width Inv-loop μ-loop
 cast-width c =
@@ -61,9 +49,6 @@ slice-write-lock c =
     let p13 = p7 .before .before .before .before .before .before in
     omega (arith, p6 .loop-test .taken, p13 .pre .locks-hold, lengths (p7 .loop .inv .0))
 
-mul-mask : tie.Need-mul-mask Inv-loop μ-loop
-mul-mask c = search needs
-
 slice-write-mask : tie.Need-slice-write-mask Inv-loop μ-loop
 slice-write-mask c =
     let p6 = c .before .before .before .before .before .before in
@@ -71,18 +56,12 @@ slice-write-mask c =
     let p13 = p7 .before .before .before .before .before .before in
     omega (arith, p6 .loop-test .taken, p13 .pre .masks-hold, lengths (p7 .loop .inv .0))
 
-mul-value : tie.Need-mul-value Inv-loop μ-loop
-mul-value c = search needs
-
 slice-write-value : tie.Need-slice-write-value Inv-loop μ-loop
 slice-write-value c =
     let p6 = c .before .before .before .before .before .before in
     let p7 = p6 .before in
     let p13 = p7 .before .before .before .before .before .before in
     omega (arith, p6 .loop-test .taken, p13 .pre .values-hold, lengths (p7 .loop .inv .0))
-
-enum-told : tie.Need-enum-told Inv-loop μ-loop
-enum-told c = search needs
 
 same-length : tie.Need-same-length Inv-loop μ-loop
 same-length c = lengths (c .before .before .before .before .before .before .loop .inv .0) .0
@@ -104,9 +83,6 @@ returns c =
     let p6 = p5 .before in
     let p12 = p6 .before .before .before .before .before .before in
     absurd (no-record (p6 .loop .inv .0) (p4 .end-of .result) (p4 .end-of .ensures .0) (omega (arith, p5 .loop-test .taken, p12 .pre .count)) (lineMeant (p2 .line .result)) (p2 .line .ensures) _ (ap lineMeant (c .enum-told .given .1)))
-
-enum-told-2 : tie.Need-enum-told-2 Inv-loop μ-loop
-enum-told-2 c = search needs
 
 same-length-5 : tie.Need-same-length-5 Inv-loop μ-loop
 same-length-5 c = lengths (c .before .before .before .before .before .before .loop .inv .0) .0
@@ -136,12 +112,6 @@ add-at c =
     let p7 = p6 .before in
     let p13 = p7 .before .before .before .before .before .before in
     omega (arith, ends-in (p7 .loop .inv .0) (p5 .end-of .result) (p5 .end-of .ensures .0) (omega (arith, p6 .loop-test .taken, p13 .pre .count)))
-
-add-k : tie.Need-add-k Inv-loop μ-loop
-add-k c = omega arith
-
-loop-less : tie.Need-loop-less Inv-loop μ-loop
-loop-less c = omega arith
 
 loop-again : tie.Need-loop-again Inv-loop μ-loop
 loop-again c =
@@ -175,34 +145,34 @@ fill-rows-spec =
     μ-loop
     loop-holds
     end-of-requires
-    sub-line
-    part-line-start
+    (λ c. omega arith)
+    (λ c. omega arith)
     part-line-end
-    line-requires
-    enum-known-f
+    (λ c κs. tt)
+    (λ c. search needs)
     cast-width
     slice-write-width
     cast-lock
     slice-write-lock
-    mul-mask
+    (λ c. search needs)
     slice-write-mask
-    mul-value
+    (λ c. search needs)
     slice-write-value
-    enum-told
+    (λ c. search needs)
     same-length
     same-length-2
     same-length-3
     same-length-4
     returns
-    enum-told-2
+    (λ c. search needs)
     same-length-5
     same-length-6
     same-length-7
     same-length-8
     returns-2
     add-at
-    add-k
-    loop-less
+    (λ c. omega arith)
+    (λ c. omega arith)
     loop-again
     same-length-9
     same-length-10

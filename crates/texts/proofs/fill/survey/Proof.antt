@@ -28,21 +28,6 @@ returns c =
     let p3 = p2 .before in
     no-end (p3 .loop .inv .1) (c .before .end-of .result) (c .before .end-of .ensures .0) (p2 .loop-test .taken) (c .if1 .taken)
 
-sub-line : tie.Need-sub-line Inv-loop μ-loop
-sub-line c = omega arith
-
-part-line-start : tie.Need-part-line-start Inv-loop μ-loop
-part-line-start c = omega arith
-
-part-line-end : tie.Need-part-line-end Inv-loop μ-loop
-part-line-end c = omega arith
-
-line-requires : tie.Need-line-requires Inv-loop μ-loop
-line-requires c κs = tt
-
-enum-told : tie.Need-enum-told Inv-loop μ-loop
-enum-told c = search needs
-
 returns-2 : tie.Need-returns-2 Inv-loop μ-loop
 returns-2 c =
     let p3 = c .before .before .before in
@@ -51,18 +36,6 @@ returns-2 c =
     let p8 = p6 .before .before in
     late-row (p8 .loop .inv .1) (p6 .end-of .result) (p6 .end-of .ensures .0) (omega (arith, p6 .end-of .ensures .1, p5 .if1 .left)) (lineMeant (p3 .line .result)) (p3 .line .ensures) _ (ap lineMeant (c .before .enum-told .given .1)) (c .if2 .taken)
 
-add-rows : tie.Need-add-rows Inv-loop μ-loop
-add-rows c = omega arith
-
-enum-told-2 : tie.Need-enum-told-2 Inv-loop μ-loop
-enum-told-2 c = search needs
-
-add-records : tie.Need-add-records Inv-loop μ-loop
-add-records c = omega arith
-
-enum-told-3 : tie.Need-enum-told-3 Inv-loop μ-loop
-enum-told-3 c = search needs
-
 returns-3 : tie.Need-returns-3 Inv-loop μ-loop
 returns-3 c =
     let p2 = c .before .before in
@@ -70,15 +43,6 @@ returns-3 c =
     let p5 = p4 .before in
     let p7 = p5 .before .before in
     outside-line (p7 .loop .inv .1) (p5 .end-of .result) (p5 .end-of .ensures .0) (omega (arith, p5 .end-of .ensures .1, p4 .if1 .left)) (lineMeant (p2 .line .result)) (p2 .line .ensures) (ap lineMeant (c .enum-told3 .given .1))
-
-add-at : tie.Need-add-at Inv-loop μ-loop
-add-at c = omega arith
-
-add-n : tie.Need-add-n Inv-loop μ-loop
-add-n c = omega arith
-
-loop-less : tie.Need-loop-less Inv-loop μ-loop
-loop-less c = omega arith
 
 loop-again : tie.Need-loop-again Inv-loop μ-loop
 loop-again c =
@@ -102,19 +66,19 @@ survey-spec =
     loop-holds
     end-of-requires
     returns
-    sub-line
-    part-line-start
-    part-line-end
-    line-requires
-    enum-told
+    (λ c. omega arith)
+    (λ c. omega arith)
+    (λ c. omega arith)
+    (λ c κs. tt)
+    (λ c. search needs)
     returns-2
-    add-rows
-    enum-told-2
-    add-records
-    enum-told-3
+    (λ c. omega arith)
+    (λ c. search needs)
+    (λ c. omega arith)
+    (λ c. search needs)
     returns-3
-    add-at
-    add-n
-    loop-less
+    (λ c. omega arith)
+    (λ c. omega arith)
+    (λ c. omega arith)
     loop-again
     returns-4)

@@ -21,66 +21,6 @@ abbrev μ-loop : tie.MeasureT-loop
 loop-holds : tie.Need-loop-holds Inv-loop μ-loop
 loop-holds c = let s = c .before .before in (refl, omega arith, begin (s .args .out .now) (s .args .from) _ _ (records-begin (s .args .words .now)))
 
-mul-j : tie.Need-mul-j Inv-loop μ-loop
-mul-j c = omega arith
-
-mul-index : tie.Need-mul-index Inv-loop μ-loop
-mul-index c = omega arith
-
-shared-slice-read-index : tie.Need-shared-slice-read-index Inv-loop μ-loop
-shared-slice-read-index c = omega arith
-
-index-requires : tie.Need-index-requires Inv-loop μ-loop
-index-requires c κs = tt
-
-add-index : tie.Need-add-index Inv-loop μ-loop
-add-index c = omega arith
-
-mul-index-2 : tie.Need-mul-index-2 Inv-loop μ-loop
-mul-index-2 c = omega arith
-
-shared-slice-read-index-2 : tie.Need-shared-slice-read-index-2 Inv-loop μ-loop
-shared-slice-read-index-2 c = omega arith
-
-index-requires-2 : tie.Need-index-requires-2 Inv-loop μ-loop
-index-requires-2 c κs = tt
-
-add-index-2 : tie.Need-add-index-2 Inv-loop μ-loop
-add-index-2 c = omega arith
-
-mul-index-3 : tie.Need-mul-index-3 Inv-loop μ-loop
-mul-index-3 c = omega arith
-
-shared-slice-read-index-3 : tie.Need-shared-slice-read-index-3 Inv-loop μ-loop
-shared-slice-read-index-3 c = omega arith
-
-index-requires-3 : tie.Need-index-requires-3 Inv-loop μ-loop
-index-requires-3 c κs = tt
-
-add-index-3 : tie.Need-add-index-3 Inv-loop μ-loop
-add-index-3 c = omega arith
-
-mul-index-4 : tie.Need-mul-index-4 Inv-loop μ-loop
-mul-index-4 c = omega arith
-
-shared-slice-read-index-4 : tie.Need-shared-slice-read-index-4 Inv-loop μ-loop
-shared-slice-read-index-4 c = omega arith
-
-index-requires-4 : tie.Need-index-requires-4 Inv-loop μ-loop
-index-requires-4 c κs = tt
-
-add-index-4 : tie.Need-add-index-4 Inv-loop μ-loop
-add-index-4 c = omega arith
-
-mul-index-5 : tie.Need-mul-index-5 Inv-loop μ-loop
-mul-index-5 c = omega arith
-
-shared-slice-read-index-5 : tie.Need-shared-slice-read-index-5 Inv-loop μ-loop
-shared-slice-read-index-5 c = omega arith
-
-index-requires-5 : tie.Need-index-requires-5 Inv-loop μ-loop
-index-requires-5 c κs = tt
-
 put-record-requires : tie.Need-put-record-requires Inv-loop μ-loop
 put-record-requires c κs =
     let p2 = c .before .before in
@@ -93,12 +33,6 @@ put-record-requires c κs =
     let i = p12 .loop in
     let line = record-on words (s .pre .0) (i .i) (omega arith) (5 * i .i) (p8 .index .result) (p6 .index2 .result) (p4 .index3 .result) (p2 .index4 .result) (c .index5 .result) refl (p8 .index .ensures) (p6 .index2 .ensures) (p4 .index3 .ensures) (p2 .index4 .ensures) (c .index5 .ensures) in
     (kind-in words (s .pre .0) (i .i) (omega arith) (5 * i .i) (p8 .index .result) refl (p8 .index .ensures), room-on (recordText (p8 .index .result) (p6 .index2 .result) (p4 .index3 .result) (p2 .index4 .result) (c .index5 .result)) (records-from words (i .i + 1)) line (s .pre .1) (i .inv .2))
-
-add-i : tie.Need-add-i Inv-loop μ-loop
-add-i c = omega arith
-
-loop-less : tie.Need-loop-less Inv-loop μ-loop
-loop-less c = omega arith
 
 loop-again : tie.Need-loop-again Inv-loop μ-loop
 loop-again c =
@@ -128,29 +62,29 @@ put-records-spec =
     Inv-loop
     μ-loop
     loop-holds
-    mul-j
-    mul-index
-    shared-slice-read-index
-    index-requires
-    add-index
-    mul-index-2
-    shared-slice-read-index-2
-    index-requires-2
-    add-index-2
-    mul-index-3
-    shared-slice-read-index-3
-    index-requires-3
-    add-index-3
-    mul-index-4
-    shared-slice-read-index-4
-    index-requires-4
-    add-index-4
-    mul-index-5
-    shared-slice-read-index-5
-    index-requires-5
+    (λ c. omega arith)
+    (λ c. omega arith)
+    (λ c. omega arith)
+    (λ c κs. tt)
+    (λ c. omega arith)
+    (λ c. omega arith)
+    (λ c. omega arith)
+    (λ c κs. tt)
+    (λ c. omega arith)
+    (λ c. omega arith)
+    (λ c. omega arith)
+    (λ c κs. tt)
+    (λ c. omega arith)
+    (λ c. omega arith)
+    (λ c. omega arith)
+    (λ c κs. tt)
+    (λ c. omega arith)
+    (λ c. omega arith)
+    (λ c. omega arith)
+    (λ c κs. tt)
     put-record-requires
-    add-i
-    loop-less
+    (λ c. omega arith)
+    (λ c. omega arith)
     loop-again
     same-length
     returns)

@@ -27,22 +27,10 @@ shared-slice-read-put-row c =
     let p9 = c .before .before .before .before .before .before .before .before .before in
     omega (arith, p9 .pre .0 .locks-length, p9 .pre .0 .masks-length, p9 .pre .0 .values-length)
 
-shared-slice-read-wide : tie.Need-shared-slice-read-wide Inv-loop μ-loop
-shared-slice-read-wide c = omega arith
-
-wide-requires : tie.Need-wide-requires Inv-loop μ-loop
-wide-requires c κs = tt
-
-mul-put-row : tie.Need-mul-put-row Inv-loop μ-loop
-mul-put-row c = omega arith
-
 shared-slice-read-put-row-2 : tie.Need-shared-slice-read-put-row-2 Inv-loop μ-loop
 shared-slice-read-put-row-2 c =
     let p12 = c .before .before .before .before .before .before .before .before .before .before .before .before in
     omega (arith, p12 .pre .0 .locks-length, p12 .pre .0 .masks-length, p12 .pre .0 .values-length)
-
-mul-put-row-2 : tie.Need-mul-put-row-2 Inv-loop μ-loop
-mul-put-row-2 c = omega arith
 
 shared-slice-read-put-row-3 : tie.Need-shared-slice-read-put-row-3 Inv-loop μ-loop
 shared-slice-read-put-row-3 c =
@@ -58,12 +46,6 @@ put-row-requires c κs =
     let i = p7 .loop in
     let line = row-on t (i .i) (p2 .wide .result) (omega arith) (p2 .wide .ensures) in
     (omega (arith, s .pre .0 .narrow (i .i) (omega arith)), room-on (rowText (getD (s .args .lock .now) (i .i) 0) (p2 .wide .result) (getD (s .args .mask .now) (i .i) 0) (getD (s .args .value .now) (i .i) 0)) (rows-from t (i .i + 1)) line (s .pre .1) (i .inv .2))
-
-add-i : tie.Need-add-i Inv-loop μ-loop
-add-i c = omega arith
-
-loop-less : tie.Need-loop-less Inv-loop μ-loop
-loop-less c = omega arith
 
 loop-again : tie.Need-loop-again Inv-loop μ-loop
 loop-again c =
@@ -92,15 +74,15 @@ put-rows-spec =
     μ-loop
     loop-holds
     shared-slice-read-put-row
-    shared-slice-read-wide
-    wide-requires
-    mul-put-row
+    (λ c. omega arith)
+    (λ c κs. tt)
+    (λ c. omega arith)
     shared-slice-read-put-row-2
-    mul-put-row-2
+    (λ c. omega arith)
     shared-slice-read-put-row-3
     put-row-requires
-    add-i
-    loop-less
+    (λ c. omega arith)
+    (λ c. omega arith)
     loop-again
     same-length
     returns)

@@ -8,15 +8,6 @@ use borrow.Author.Needs.{needs}
 use Rattle.texts.proofs.trips.read_then_write.Statement.{statement}
 use Rattle.texts.proofs.trips.read_then_write.Tie as tie
 
-read-requires : tie.Need-read-requires
-read-requires c κs = search needs
-
-enum-known-found : tie.Need-enum-known-found
-enum-known-found c = search needs
-
-enum-known-found-2 : tie.Need-enum-known-found-2
-enum-known-found-2 c = search needs
-
 mul-n : tie.Need-mul-n
 mul-n c =
     let r = c .before .before .before .before .before .before .before .before .before .before .before .before .before in
@@ -114,24 +105,6 @@ slice-aggregate-write-5 c =
     let left = lent (r .read .last .1 .0) (r .read .last .1 .1 .0) (r .read .last .1 .1 .1 .0) (r .read .last .1 .1 .1 .1 .0) (r .read .last .1 .1 .1 .1 .1 .0) in
     sym (length-take-le _ (r .read .last .1 .1 .1 .1 .1 .0) (read-room (s .args .text .now) slices (r .read .result) {new = left} (r .read .ensures) _ _ (p6 .found2 .given .1) .words-hold))
 
-write-requires : tie.Need-write-requires
-write-requires c κs = search needs
-
-same-length : tie.Need-same-length
-same-length c = search needs
-
-same-length-2 : tie.Need-same-length-2
-same-length-2 c = search needs
-
-same-length-3 : tie.Need-same-length-3
-same-length-3 c = search needs
-
-same-length-4 : tie.Need-same-length-4
-same-length-4 c = search needs
-
-same-length-5 : tie.Need-same-length-5
-same-length-5 c = search needs
-
 returns : tie.Need-returns
 returns c =
     let r = c .before .before .before .before .before .before .before .before .before .before .before .before .before in
@@ -139,24 +112,6 @@ returns c =
     let slices = lent (s .args .width .now) (s .args .lock .now) (s .args .mask .now) (s .args .value .now) (s .args .words .now) in
     let left = lent (r .read .last .1 .0) (r .read .last .1 .1 .0) (r .read .last .1 .1 .1 .0) (r .read .last .1 .1 .1 .1 .0) (r .read .last .1 .1 .1 .1 .1 .0) in
     not-read (s .args .text .now) slices (r .read .result) {new = left} (r .read .ensures) _ (c .before .found .given .1) _ _
-
-same-length-6 : tie.Need-same-length-6
-same-length-6 c = search needs
-
-same-length-7 : tie.Need-same-length-7
-same-length-7 c = search needs
-
-same-length-8 : tie.Need-same-length-8
-same-length-8 c = search needs
-
-same-length-9 : tie.Need-same-length-9
-same-length-9 c = search needs
-
-same-length-10 : tie.Need-same-length-10
-same-length-10 c = search needs
-
-same-length-11 : tie.Need-same-length-11
-same-length-11 c = search needs
 
 returns-2 : tie.Need-returns-2
 returns-2 c =
@@ -172,9 +127,9 @@ pub read-then-write-spec : {M : Type 1} → statement M
 read-then-write-spec =
     tie.close
     (tie.spec
-    read-requires
-    enum-known-found
-    enum-known-found-2
+    (λ c κs. search needs)
+    (λ c. search needs)
+    (λ c. search needs)
     mul-n
     slice-reshare-prefix-write
     slice-aggregate-write
@@ -186,17 +141,17 @@ read-then-write-spec =
     slice-aggregate-write-4
     slice-reshare-prefix-write-5
     slice-aggregate-write-5
-    write-requires
-    same-length
-    same-length-2
-    same-length-3
-    same-length-4
-    same-length-5
+    (λ c κs. search needs)
+    (λ c. search needs)
+    (λ c. search needs)
+    (λ c. search needs)
+    (λ c. search needs)
+    (λ c. search needs)
     returns
-    same-length-6
-    same-length-7
-    same-length-8
-    same-length-9
-    same-length-10
-    same-length-11
+    (λ c. search needs)
+    (λ c. search needs)
+    (λ c. search needs)
+    (λ c. search needs)
+    (λ c. search needs)
+    (λ c. search needs)
     returns-2)
