@@ -20,27 +20,6 @@ word x =
     let whole : reversed 32 x ≡ reversed 32 (x / 2 ^ 0) = ap (reversed 32) (sym (div-one x)) in
     omega (arith, byte x 0 24, byte x 8 16, byte x 16 8)
 
-reverse-byte-at-requires : tie.Need-reverse-byte-at-requires
-reverse-byte-at-requires c κs = search needs
-
-reverse-byte-at-requires-2 : tie.Need-reverse-byte-at-requires-2
-reverse-byte-at-requires-2 c κs = search needs
-
-reverse-byte-at-requires-3 : tie.Need-reverse-byte-at-requires-3
-reverse-byte-at-requires-3 c κs = search needs
-
-reverse-byte-at-requires-4 : tie.Need-reverse-byte-at-requires-4
-reverse-byte-at-requires-4 c κs = search needs
-
-append-byte-requires : tie.Need-append-byte-requires
-append-byte-requires c κs = search needs
-
-append-byte-requires-2 : tie.Need-append-byte-requires-2
-append-byte-requires-2 c κs = search needs
-
-append-byte-requires-3 : tie.Need-append-byte-requires-3
-append-byte-requires-3 c κs = search needs
-
 returns : tie.Need-returns
 returns c = cc (word (c .before .before .before .before .before .before .before .args .x))
 
@@ -48,11 +27,11 @@ pub reverse-spec : {M : Type 1} → statement M
 reverse-spec =
     tie.close
     (tie.spec
-    reverse-byte-at-requires
-    reverse-byte-at-requires-2
-    reverse-byte-at-requires-3
-    reverse-byte-at-requires-4
-    append-byte-requires
-    append-byte-requires-2
-    append-byte-requires-3
+    (λ c κs. search needs)
+    (λ c κs. search needs)
+    (λ c κs. search needs)
+    (λ c κs. search needs)
+    (λ c κs. search needs)
+    (λ c κs. search needs)
+    (λ c κs. search needs)
     returns)

@@ -15,29 +15,8 @@ abbrev μ-loop : tie.MeasureT-loop
 loop-holds : tie.Need-loop-holds Inv-loop μ-loop
 loop-holds c = (omega arith, omega arith)
 
-mul-pair-passes : tie.Need-mul-pair-passes Inv-loop μ-loop
-mul-pair-passes c = omega arith
-
-add-pair-passes : tie.Need-add-pair-passes Inv-loop μ-loop
-add-pair-passes c = omega arith
-
-pair-passes-requires : tie.Need-pair-passes-requires Inv-loop μ-loop
-pair-passes-requires c κs = omega arith
-
-add-differ : tie.Need-add-differ Inv-loop μ-loop
-add-differ c = omega arith
-
-add-k : tie.Need-add-k Inv-loop μ-loop
-add-k c = omega arith
-
-loop-less : tie.Need-loop-less Inv-loop μ-loop
-loop-less c = omega arith
-
 loop-again : tie.Need-loop-again Inv-loop μ-loop
 loop-again c = ⊎-elim (λ w. (omega arith, omega arith)) (λ w. (omega arith, omega arith)) (c .if1 .came)
-
-returns : tie.Need-returns Inv-loop μ-loop
-returns c = search needs
 
 pub differing-spec : {M : Type 1} → statement M
 differing-spec =
@@ -46,11 +25,11 @@ differing-spec =
     Inv-loop
     μ-loop
     loop-holds
-    mul-pair-passes
-    add-pair-passes
-    pair-passes-requires
-    add-differ
-    add-k
-    loop-less
+    (λ c. omega arith)
+    (λ c. omega arith)
+    (λ c κs. omega arith)
+    (λ c. omega arith)
+    (λ c. omega arith)
+    (λ c. omega arith)
     loop-again
-    returns)
+    (λ c. search needs))

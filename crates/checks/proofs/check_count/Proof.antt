@@ -12,9 +12,6 @@ use borrow.Author.Needs.{needs}
 use Rattle.checks.proofs.check_count.Statement.{statement}
 use Rattle.checks.proofs.check_count.Tie as tie
 
-check-shape-requires : tie.Need-check-shape-requires
-check-shape-requires c κs = search needs
-
 enum-told : tie.Need-enum-told
 enum-told c = search needs
 
@@ -24,16 +21,10 @@ returns c =
     let a = c .before .before .before .before .before .before .before .args in
     ap meant (c .enum-told .given .1) ∙ sym (stops (c .before .before .check-shape .result) (placed 0 (rowShapeFaults (lent (a .width .now) (a .lock .now) (a .mask .now) (a .value .now) []))) (rowChecks (lent (a .width .now) (a .lock .now) (a .mask .now) (a .value .now) []) ++ placed (a .row) (fault (rowOutside (lent (a .width .now) (a .lock .now) (a .mask .now) (a .value .now) []) (a .row)) 7 ∷ [])) (c .before .before .check-shape .ensures) _ (c .enum-told .given .1))
 
-enum-told-2 : tie.Need-enum-told-2
-enum-told-2 c = search needs
-
 check-rows-requires : tie.Need-check-rows-requires
 check-rows-requires c κs =
     let a = c .before .before .before .before .before .before .before .args in
     slices-of-shape (lent (a .width .now) (a .lock .now) (a .mask .now) (a .value .now) []) (passed-of-done (placed 0 (rowShapeFaults (lent (a .width .now) (a .lock .now) (a .mask .now) (a .value .now) []))) tt tt (sym (c .before .before .check-shape .ensures) ∙ ap meant (c .enum-told2 .given .1))) .1
-
-enum-told-3 : tie.Need-enum-told-3
-enum-told-3 c = search needs
 
 returns-2 : tie.Need-returns-2
 unfolding countChecks
@@ -42,12 +33,6 @@ returns-2 c =
     ap meant (c .enum-told3 .given .1)
     ∙ sym (goes-on (c .before .before .before .before .before .check-shape .result) (placed 0 (rowShapeFaults (lent (a .width .now) (a .lock .now) (a .mask .now) (a .value .now) []))) (rowChecks (lent (a .width .now) (a .lock .now) (a .mask .now) (a .value .now) []) ++ placed (a .row) (fault (rowOutside (lent (a .width .now) (a .lock .now) (a .mask .now) (a .value .now) []) (a .row)) 7 ∷ [])) (c .before .before .before .before .before .check-shape .ensures) (c .before .before .before .enum-told2 .given .1)
     ∙ stops (c .before .before .check-rows .result) (rowChecks (lent (a .width .now) (a .lock .now) (a .mask .now) (a .value .now) [])) (placed (a .row) (fault (rowOutside (lent (a .width .now) (a .lock .now) (a .mask .now) (a .value .now) []) (a .row)) 7 ∷ [])) (c .before .before .check-rows .ensures) _ (c .enum-told3 .given .1))
-
-enum-told-4 : tie.Need-enum-told-4
-enum-told-4 c = search needs
-
-refuse-requires : tie.Need-refuse-requires
-refuse-requires c κs = search needs
 
 returns-3 : tie.Need-returns-3
 unfolding countChecks verdict
@@ -70,14 +55,14 @@ pub check-count-spec : {M : Type 1} → statement M
 check-count-spec =
     tie.close
     (tie.spec
-    check-shape-requires
+    (λ c κs. search needs)
     enum-told
     returns
-    enum-told-2
+    (λ c. search needs)
     check-rows-requires
-    enum-told-3
+    (λ c. search needs)
     returns-2
-    enum-told-4
-    refuse-requires
+    (λ c. search needs)
+    (λ c κs. search needs)
     returns-3
     returns-4)

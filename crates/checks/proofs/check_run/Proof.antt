@@ -12,9 +12,6 @@ use borrow.Author.Needs.{needs}
 use Rattle.checks.proofs.check_run.Statement.{statement}
 use Rattle.checks.proofs.check_run.Tie as tie
 
-check-head-requires : tie.Need-check-head-requires
-check-head-requires c κs = search needs
-
 enum-told : tie.Need-enum-told
 enum-told c = search needs
 
@@ -24,15 +21,6 @@ returns c =
     let a = c .before .before .before .before .before .before .before .before .args in
     ap meant (c .enum-told .given .1) ∙ sym (stops (c .before .before .check-head .result) (headChecks (lent (a .width .now) (a .lock .now) (a .mask .now) (a .value .now) (a .words .now))) (placed 0 (stretchFaults (lent (a .width .now) (a .lock .now) (a .mask .now) (a .value .now) (a .words .now)) (a .first) (a .last)) ++ bodyChecks true (lent (a .width .now) (a .lock .now) (a .mask .now) (a .value .now) (a .words .now))) (c .before .before .check-head .ensures) _ (c .enum-told .given .1))
 
-enum-told-2 : tie.Need-enum-told-2
-enum-told-2 c = search needs
-
-check-stretch-requires : tie.Need-check-stretch-requires
-check-stretch-requires c κs = search needs
-
-enum-told-3 : tie.Need-enum-told-3
-enum-told-3 c = search needs
-
 returns-2 : tie.Need-returns-2
 unfolding runChecks
 returns-2 c =
@@ -40,9 +28,6 @@ returns-2 c =
     ap meant (c .enum-told3 .given .1)
     ∙ sym (goes-on (c .before .before .before .before .before .check-head .result) (headChecks (lent (a .width .now) (a .lock .now) (a .mask .now) (a .value .now) (a .words .now))) (placed 0 (stretchFaults (lent (a .width .now) (a .lock .now) (a .mask .now) (a .value .now) (a .words .now)) (a .first) (a .last)) ++ bodyChecks true (lent (a .width .now) (a .lock .now) (a .mask .now) (a .value .now) (a .words .now))) (c .before .before .before .before .before .check-head .ensures) (c .before .before .before .enum-told2 .given .1)
     ∙ stops (c .before .before .check-stretch .result) (placed 0 (stretchFaults (lent (a .width .now) (a .lock .now) (a .mask .now) (a .value .now) (a .words .now)) (a .first) (a .last))) (bodyChecks true (lent (a .width .now) (a .lock .now) (a .mask .now) (a .value .now) (a .words .now))) (c .before .before .check-stretch .ensures) _ (c .enum-told3 .given .1))
-
-enum-told-4 : tie.Need-enum-told-4
-enum-told-4 c = search needs
 
 check-body-requires : tie.Need-check-body-requires
 check-body-requires c κs =
@@ -61,13 +46,13 @@ pub check-run-spec : {M : Type 1} → statement M
 check-run-spec =
     tie.close
     (tie.spec
-    check-head-requires
+    (λ c κs. search needs)
     enum-told
     returns
-    enum-told-2
-    check-stretch-requires
-    enum-told-3
+    (λ c. search needs)
+    (λ c κs. search needs)
+    (λ c. search needs)
     returns-2
-    enum-told-4
+    (λ c. search needs)
     check-body-requires
     returns-3)

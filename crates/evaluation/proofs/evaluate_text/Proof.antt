@@ -4,27 +4,6 @@ use borrow.Author.Needs.{needs}
 use Rattle.evaluation.proofs.evaluate_text.Statement.{statement}
 use Rattle.evaluation.proofs.evaluate_text.Tie as tie
 
-slice-aggregate-evaluate-in : tie.Need-slice-aggregate-evaluate-in
-slice-aggregate-evaluate-in c = search needs
-
-slice-aggregate-evaluate-in-2 : tie.Need-slice-aggregate-evaluate-in-2
-slice-aggregate-evaluate-in-2 c = search needs
-
-slice-aggregate-evaluate-in-3 : tie.Need-slice-aggregate-evaluate-in-3
-slice-aggregate-evaluate-in-3 c = search needs
-
-slice-aggregate-evaluate-in-4 : tie.Need-slice-aggregate-evaluate-in-4
-slice-aggregate-evaluate-in-4 c = search needs
-
-slice-aggregate-evaluate-in-5 : tie.Need-slice-aggregate-evaluate-in-5
-slice-aggregate-evaluate-in-5 c = search needs
-
-evaluate-in-requires : tie.Need-evaluate-in-requires
-evaluate-in-requires c κs = search needs
-
-same-length : tie.Need-same-length
-same-length c = search needs
-
 returns : tie.Need-returns
 unfolding evaluateOf
 returns c = c .before .before .before .before .before .before .before .evaluate-in .ensures
@@ -33,11 +12,11 @@ pub evaluate-text-spec : {M : Type 1} → statement M
 evaluate-text-spec =
     tie.close
     (tie.spec
-    slice-aggregate-evaluate-in
-    slice-aggregate-evaluate-in-2
-    slice-aggregate-evaluate-in-3
-    slice-aggregate-evaluate-in-4
-    slice-aggregate-evaluate-in-5
-    evaluate-in-requires
-    same-length
+    (λ c. search needs)
+    (λ c. search needs)
+    (λ c. search needs)
+    (λ c. search needs)
+    (λ c. search needs)
+    (λ c κs. search needs)
+    (λ c. search needs)
     returns)

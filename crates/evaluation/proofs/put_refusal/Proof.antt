@@ -9,12 +9,6 @@ use borrow.Author.Needs.{needs}
 use Rattle.evaluation.proofs.put_refusal.Statement.{statement}
 use Rattle.evaluation.proofs.put_refusal.Tie as tie
 
-slice-aggregate-put-word : tie.Need-slice-aggregate-put-word
-slice-aggregate-put-word c = search needs
-
-put-word-requires : tie.Need-put-word-requires
-put-word-requires c κs = search needs
-
 put-number-requires : tie.Need-put-number-requires
 put-number-requires c κs =
     let a = c .before .before .before .before .before .before .before .args in
@@ -24,9 +18,6 @@ put-number-requires c κs =
     let w0 = begin o 0 whole (firstPart ++ (decimal (a .number) ++ (tabPart ++ (decimal (a .place) ++ (endPart ++ []))))) (line-parts (a .number) (a .place)) in
     let w1 = step (decimal (a .number) ++ (tabPart ++ (decimal (a .place) ++ (endPart ++ [])))) w0 (c .before .before .before .put-word .ensures) in
     room (decimal (a .number)) (tabPart ++ (decimal (a .place) ++ (endPart ++ []))) h w1
-
-slice-aggregate-put-word-2 : tie.Need-slice-aggregate-put-word-2
-slice-aggregate-put-word-2 c = search needs
 
 put-word-requires-2 : tie.Need-put-word-requires-2
 put-word-requires-2 c κs =
@@ -51,9 +42,6 @@ put-number-requires-2 c κs =
     let w3 = step (decimal (a .place) ++ (endPart ++ [])) w2 (c .before .before .before .put-word2 .ensures) in
     room (decimal (a .place)) (endPart ++ []) h w3
 
-slice-aggregate-put-word-3 : tie.Need-slice-aggregate-put-word-3
-slice-aggregate-put-word-3 c = search needs
-
 put-word-requires-3 : tie.Need-put-word-requires-3
 put-word-requires-3 c κs =
     let a = c .before .before .before .before .before .before .before .before .before .before .before .before .before .before .before .before .before .before .before .before .before .args in
@@ -66,9 +54,6 @@ put-word-requires-3 c κs =
     let w3 = step (decimal (a .place) ++ (endPart ++ [])) w2 (c .before .before .before .before .before .before .before .before .put-word2 .ensures) in
     let w4 = step (endPart ++ []) w3 (c .before .before .before .before .put-number2 .ensures) in
     room endPart [] h w4
-
-same-length : tie.Need-same-length
-same-length c = search needs
 
 returns : tie.Need-returns
 returns c =
@@ -88,13 +73,13 @@ pub put-refusal-spec : {M : Type 1} → statement M
 put-refusal-spec =
     tie.close
     (tie.spec
-    slice-aggregate-put-word
-    put-word-requires
+    (λ c. search needs)
+    (λ c κs. search needs)
     put-number-requires
-    slice-aggregate-put-word-2
+    (λ c. search needs)
     put-word-requires-2
     put-number-requires-2
-    slice-aggregate-put-word-3
+    (λ c. search needs)
     put-word-requires-3
-    same-length
+    (λ c. search needs)
     returns)

@@ -28,15 +28,6 @@ pairs-below p = lt-of-le-of-lt (and-le-l (p .before .args .ma) (p .partners .res
 is-lone : (p : tie.After-partners) → pairs p ≢ 0 → pairs p ≡ 1 * 2 ^ trailingZeros 32 (pairs p) % 2 ^ 32 → pairs p ≡ 2 ^ trailingZeros 32 (pairs p)
 is-lone p z e = e ∙ shifted-one 32 (trailingZeros 32 (pairs p)) (lowest 32 (pairs p) z (pairs-below p) .0)
 
-partners-requires : tie.Need-partners-requires
-partners-requires c κs = search needs
-
-extreme-factors-requires : tie.Need-extreme-factors-requires
-extreme-factors-requires c κs = search needs
-
-settle-requires : tie.Need-settle-requires
-settle-requires c κs = search needs
-
 returns : tie.Need-returns
 returns c w h F G =
     let a = c .before .before .before .before .args in
@@ -54,18 +45,12 @@ returns-2 c w h F G =
     some-pairs-bit w (a .ma) (a .va) (a .mb) (a .vb) (a .k) h F G _ (pairs-are p) 32 (trailingZeros 32 (pairs p)) (pairs-below p) (l .0) (l .1)
     (λ d. c .if2 .taken (d ∙ sym (shifted-one 32 (trailingZeros 32 (pairs p)) (l .0))))
 
-extreme-factors-requires-2 : tie.Need-extreme-factors-requires-2
-extreme-factors-requires-2 c κs = search needs
-
 with-pair-requires : tie.Need-with-pair-requires
 with-pair-requires c κs =
     let p = c .before .before .before in
     let a = p .before .args in
     let g = p .before .pre .0 in
     (lone-within (g .width) (a .ma) (a .va) (a .mb) (a .vb) (a .k) (g .below) (g .first) (g .second) _ (pairs-are p) _ (is-lone p (c .before .before .if1 .left) (c .before .if2 .left)), omega (arith, g .below, g .most))
-
-settle-requires-2 : tie.Need-settle-requires-2
-settle-requires-2 c κs = search needs
 
 returns-3 : tie.Need-returns-3
 returns-3 c w h F G =
@@ -78,13 +63,13 @@ pub column-bit-spec : {M : Type 1} → statement M
 column-bit-spec =
     tie.close
     (tie.spec
-    partners-requires
-    extreme-factors-requires
-    settle-requires
+    (λ c κs. search needs)
+    (λ c κs. search needs)
+    (λ c κs. search needs)
     returns
     shl-lone
     returns-2
-    extreme-factors-requires-2
+    (λ c κs. search needs)
     with-pair-requires
-    settle-requires-2
+    (λ c κs. search needs)
     returns-3)

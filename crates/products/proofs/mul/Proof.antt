@@ -8,9 +8,6 @@ use Rattle.products.proofs.mul.Tie as tie
 formed : (s : tie.Start) → Formed (s .args .w) (s .args .ma) (s .args .va) (s .args .mb) (s .args .vb)
 formed s = record { most = s .pre .0; first = s .pre .1 .formed .0; second = s .pre .1 .formed .1 .0 }
 
-product-requires : tie.Need-product-requires
-product-requires c κs = search needs
-
 width-mask-requires : tie.Need-width-mask-requires
 width-mask-requires c κs = let s = c .before .before in (s .pre .1 .wide, s .pre .0)
 
@@ -27,9 +24,6 @@ width-mask-requires-2 c κs = let s = c .before in (s .pre .1 .wide, s .pre .0)
 unknown-below-requires : tie.Need-unknown-below-requires
 unknown-below-requires c κs = let s = c .before .before in (s .pre .1 .wide, formed s)
 
-product-requires-2 : tie.Need-product-requires-2
-product-requires-2 c κs = search needs
-
 returns-2 : tie.Need-returns-2
 returns-2 c =
     let s = c .before .before .before .before in
@@ -41,10 +35,10 @@ pub mul-spec : {M : Type 1} → statement M
 mul-spec =
     tie.close
     (tie.spec
-    product-requires
+    (λ c κs. search needs)
     width-mask-requires
     returns
     width-mask-requires-2
     unknown-below-requires
-    product-requires-2
+    (λ c κs. search needs)
     returns-2)

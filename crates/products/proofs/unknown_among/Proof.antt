@@ -19,9 +19,6 @@ Inv-loop unsettled ma va mb vb reverses found₀ rest₀ found rest =
 abbrev μ-loop : tie.MeasureT-loop
 μ-loop unsettled ma va mb vb reverses found₀ rest₀ found rest = rest
 
-reverse-words-requires : tie.Need-reverse-words-requires Inv-loop μ-loop
-reverse-words-requires c κs = search needs
-
 loop-holds : tie.Need-loop-holds Inv-loop μ-loop
 loop-holds c w F h = worked-start _ (c .before .args .unsettled)
 
@@ -40,9 +37,6 @@ unknown-column-requires c κs =
       },
       c .before .before .reverse-words .ensures,
     )
-
-sub-rest : tie.Need-sub-rest Inv-loop μ-loop
-sub-rest c = omega arith
 
 loop-less : tie.Need-loop-less Inv-loop μ-loop
 loop-less c = clear-less (c .before .before .loop .rest) (λ z. omega arith)
@@ -68,10 +62,10 @@ unknown-among-spec =
     (tie.spec
     Inv-loop
     μ-loop
-    reverse-words-requires
+    (λ c κs. search needs)
     loop-holds
     unknown-column-requires
-    sub-rest
+    (λ c. omega arith)
     loop-less
     loop-again
     returns)

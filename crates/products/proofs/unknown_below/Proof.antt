@@ -15,20 +15,8 @@ add-if1 c =
     let y = ones-le 32 (c .args .mb) (c .fits .mb .fits) in
     record { fits = omega arith }
 
-by-every-choice-requires : tie.Need-by-every-choice-requires
-by-every-choice-requires c κs = search needs
-
 returns : tie.Need-returns
 returns c k h = let s = c .before .before in sym (c .by-every-choice .ensures (s .args .w) (s .pre .1) k h)
-
-unknown-columns-requires : tie.Need-unknown-columns-requires
-unknown-columns-requires c κs = search needs
-
-known-columns-requires : tie.Need-known-columns-requires
-known-columns-requires c κs = search needs
-
-width-mask-requires : tie.Need-width-mask-requires
-width-mask-requires c κs = search needs
 
 unknown-among-requires : tie.Need-unknown-among-requires
 unknown-among-requires c κs =
@@ -54,10 +42,10 @@ unknown-below-spec =
     tie.close
     (tie.spec
     add-if1
-    by-every-choice-requires
+    (λ c κs. search needs)
     returns
-    unknown-columns-requires
-    known-columns-requires
-    width-mask-requires
+    (λ c κs. search needs)
+    (λ c κs. search needs)
+    (λ c κs. search needs)
     unknown-among-requires
     returns-2)

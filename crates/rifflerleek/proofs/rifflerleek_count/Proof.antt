@@ -6,24 +6,6 @@ use Rattle.rifflerleek.specs.Host.{countAnswer}
 use Rattle.rifflerleek.proofs.rifflerleek_count.Statement.{statement}
 use Rattle.rifflerleek.proofs.rifflerleek_count.Tie as tie
 
-count-requires : tie.Need-count-requires
-count-requires c κs = search needs
-
-enum-known-u : tie.Need-enum-known-u
-enum-known-u c = search needs
-
-cast-done : tie.Need-cast-done
-cast-done c = search needs
-
-done-requires : tie.Need-done-requires
-done-requires c κs = search needs
-
-enum-known-r : tie.Need-enum-known-r
-enum-known-r c = search needs
-
-refused-requires : tie.Need-refused-requires
-refused-requires c κs = search needs
-
 returns : tie.Need-returns
 returns c = c .done .ensures ∙ ap countAnswer (ap countMeant (sym (c .before .before .u .given .1)) ∙ c .before .before .before .before .count .ensures)
 
@@ -34,11 +16,11 @@ pub rifflerleek-count-spec : {M : Type 1} → statement M
 rifflerleek-count-spec =
     tie.close
     (tie.spec
-    count-requires
-    enum-known-u
-    cast-done
-    done-requires
-    enum-known-r
-    refused-requires
+    (λ c κs. search needs)
+    (λ c. search needs)
+    (λ c. search needs)
+    (λ c κs. search needs)
+    (λ c. search needs)
+    (λ c κs. search needs)
     returns
     returns-2)

@@ -9,21 +9,6 @@ use Rattle.rifflerleek.proofs.Starts.{bytes-found, end-inside, ends-fou
 use Rattle.rifflerleek.proofs.rifflerleek_field.Statement.{statement}
 use Rattle.rifflerleek.proofs.rifflerleek_field.Tie as tie
 
-part-requires : tie.Need-part-requires
-part-requires c κs = search needs
-
-start-of-requires : tie.Need-start-of-requires
-start-of-requires c κs = search needs
-
-start-of-requires-2 : tie.Need-start-of-requires-2
-start-of-requires-2 c κs = search needs
-
-add-start : tie.Need-add-start
-add-start c = search needs
-
-field-requires : tie.Need-field-requires
-field-requires c κs = search needs
-
 add-end : tie.Need-add-end
 add-end c =
     let a = c .before .before .before .before .before .args in
@@ -34,9 +19,6 @@ add-end c =
     let h = end-inside (a .text .now) (a .line) (a .field) (l .result .now) (f .result .now) (s .result) (t .result) (ap (λ (p : Part). p .bytes) (l .ensures)) (s .ensures .0) (t .ensures .0)
     (bytes-found (lies (ptr (a .text)) (a .text .now)) (lies (ptr (f .result)) (f .result .now)) (a .line) (a .field) (f .ensures)) in
     omega (arith, h)
-
-done-requires : tie.Need-done-requires
-done-requires c κs = search needs
 
 returns : tie.Need-returns
 returns c =
@@ -52,11 +34,11 @@ pub rifflerleek-field-spec : {M : Type 1} → statement M
 rifflerleek-field-spec =
     tie.close
     (tie.spec
-    part-requires
-    start-of-requires
-    start-of-requires-2
-    add-start
-    field-requires
+    (λ c κs. search needs)
+    (λ c κs. search needs)
+    (λ c κs. search needs)
+    (λ c. search needs)
+    (λ c κs. search needs)
     add-end
-    done-requires
+    (λ c κs. search needs)
     returns)

@@ -6,21 +6,6 @@ use Rattle.rifflerleek.specs.Host.{numberAnswer}
 use Rattle.rifflerleek.proofs.rifflerleek_size.Statement.{statement}
 use Rattle.rifflerleek.proofs.rifflerleek_size.Tie as tie
 
-size-requires : tie.Need-size-requires
-size-requires c κs = search needs
-
-enum-known-n : tie.Need-enum-known-n
-enum-known-n c = search needs
-
-done-requires : tie.Need-done-requires
-done-requires c κs = search needs
-
-enum-known-r : tie.Need-enum-known-r
-enum-known-r c = search needs
-
-refused-requires : tie.Need-refused-requires
-refused-requires c κs = search needs
-
 returns : tie.Need-returns
 returns c = c .done .ensures ∙ ap numberAnswer (ap bytesMeant (sym (c .before .before .n .given .1)) ∙ c .before .before .before .before .size .ensures)
 
@@ -31,10 +16,10 @@ pub rifflerleek-size-spec : {M : Type 1} → statement M
 rifflerleek-size-spec =
     tie.close
     (tie.spec
-    size-requires
-    enum-known-n
-    done-requires
-    enum-known-r
-    refused-requires
+    (λ c κs. search needs)
+    (λ c. search needs)
+    (λ c κs. search needs)
+    (λ c. search needs)
+    (λ c κs. search needs)
     returns
     returns-2)

@@ -8,32 +8,11 @@ use Rattle.rifflerleek.specs.Host.{outcome, hostWritten}
 use Rattle.rifflerleek.proofs.rifflerleek_write.Statement.{statement}
 use Rattle.rifflerleek.proofs.rifflerleek_write.Tie as tie
 
-write-requires : tie.Need-write-requires
-write-requires c κs = search needs
-
-enum-known-n : tie.Need-enum-known-n
-enum-known-n c = search needs
-
-done-requires : tie.Need-done-requires
-done-requires c κs = search needs
-
-enum-known-r : tie.Need-enum-known-r
-enum-known-r c = search needs
-
-refused-requires : tie.Need-refused-requires
-refused-requires c κs = search needs
-
-same-length : tie.Need-same-length
-same-length c = search needs
-
 returns : tie.Need-returns
 returns c =
     let u = c .before .before .before .before .before .before .write in
     let out = u .last .1 .1 .1 .1 .1 .0 in
     ap (λ (a : Answer). outcome a out) (c .done .ensures) ∙ ap (λ (r : BytesAnswer). hostWritten (writeLeft r out)) (sym (c .before .before .n .given .1)) ∙ ap hostWritten (u .ensures)
-
-same-length-2 : tie.Need-same-length-2
-same-length-2 c = search needs
 
 returns-2 : tie.Need-returns-2
 returns-2 c =
@@ -45,12 +24,12 @@ pub rifflerleek-write-spec : {M : Type 1} → statement M
 rifflerleek-write-spec =
     tie.close
     (tie.spec
-    write-requires
-    enum-known-n
-    done-requires
-    enum-known-r
-    refused-requires
-    same-length
+    (λ c κs. search needs)
+    (λ c. search needs)
+    (λ c κs. search needs)
+    (λ c. search needs)
+    (λ c κs. search needs)
+    (λ c. search needs)
     returns
-    same-length-2
+    (λ c. search needs)
     returns-2)

@@ -12,12 +12,6 @@ use borrow.Author.Needs.{needs}
 use Rattle.tables.proofs.count.Statement.{statement}
 use Rattle.tables.proofs.count.Tie as tie
 
-check-count-requires : tie.Need-check-count-requires
-check-count-requires c κs = search needs
-
-enum-known-r : tie.Need-enum-known-r
-enum-known-r c = search needs
-
 enum-told : tie.Need-enum-told
 enum-told c = search needs
 
@@ -56,8 +50,8 @@ pub count-spec : {M : Type 1} → statement M
 count-spec =
     tie.close
     (tie.spec
-    check-count-requires
-    enum-known-r
+    (λ c κs. search needs)
+    (λ c. search needs)
     enum-told
     mul-u
     shared-slice-read-u

@@ -6,12 +6,6 @@ use borrow.Author.Needs.{needs}
 use Rattle.texts.proofs.size.Statement.{statement}
 use Rattle.texts.proofs.size.Tie as tie
 
-check-table-requires : tie.Need-check-table-requires
-check-table-requires c κs = search needs
-
-enum-known-found : tie.Need-enum-known-found
-enum-known-found c = search needs
-
 enum-told : tie.Need-enum-told
 enum-told c = search needs
 
@@ -21,9 +15,6 @@ mul-t10 c =
     let s = p2 .before .before .before .before .before .before in
     let t = lent (s .args .width .now) (s .args .lock .now) (s .args .mask .now) (s .args .value .now) (s .args .words .now) in
     omega (arith, size-passed t (p2 .check-table .result) (p2 .check-table .ensures) (c .enum-told .given .1) .rows-most)
-
-mul-t13 : tie.Need-mul-t13
-mul-t13 c = search needs
 
 add-t14 : tie.Need-add-t14
 add-t14 c =
@@ -48,11 +39,11 @@ pub size-spec : {M : Type 1} → statement M
 size-spec =
     tie.close
     (tie.spec
-    check-table-requires
-    enum-known-found
+    (λ c κs. search needs)
+    (λ c. search needs)
     enum-told
     mul-t10
-    mul-t13
+    (λ c. search needs)
     add-t14
     returns
     returns-2)

@@ -8,24 +8,6 @@ use Rattle.checks.proofs.Rules.{six}
 use Rattle.checks.proofs.described.rule_fits.Statement.{statement}
 use Rattle.checks.proofs.described.rule_fits.Tie as tie
 
-same-widths-requires : tie.Need-same-widths-requires
-same-widths-requires c κs = search needs
-
-add-result : tie.Need-add-result
-add-result c = search needs
-
-add-result-2 : tie.Need-add-result-2
-add-result-2 c = search needs
-
-both-requires : tie.Need-both-requires
-both-requires c κs = search needs
-
-same-widths-requires-2 : tie.Need-same-widths-requires-2
-same-widths-requires-2 c κs = search needs
-
-both-requires-2 : tie.Need-both-requires-2
-both-requires-2 c κs = search needs
-
 returns : tie.Need-returns
 unfolding ruleOf
 returns c = rw (c .match .keys1) refl
@@ -61,12 +43,12 @@ pub rule-fits-spec : {M : Type 1} → statement M
 rule-fits-spec =
     tie.close
     (tie.spec
-    same-widths-requires
-    add-result
-    add-result-2
-    both-requires
-    same-widths-requires-2
-    both-requires-2
+    (λ c κs. search needs)
+    (λ c. search needs)
+    (λ c. search needs)
+    (λ c κs. search needs)
+    (λ c κs. search needs)
+    (λ c κs. search needs)
     returns
     returns-2
     returns-3

@@ -14,9 +14,6 @@ use borrow.Author.Needs.{needs}
 use Rattle.checks.proofs.records.check_record.Statement.{statement}
 use Rattle.checks.proofs.records.check_record.Tie as tie
 
-check-named-requires : tie.Need-check-named-requires
-check-named-requires c κs = search needs
-
 enum-told : tie.Need-enum-told
 enum-told c = search needs
 
@@ -25,9 +22,6 @@ unfolding recordFaults
 returns c =
     let a = c .before .before .before .before .args in
     ap meant (c .enum-told .given .1) ∙ sym (stops (c .before .before .check-named .result) (placed (a .i) (namedFaults (length (a .width .now)) (a .kind ∷ a .t ∷ a .a ∷ a .b ∷ a .p ∷ []))) (placed (a .i) (fault (not (widthsFit (a .width .now) (a .kind ∷ a .t ∷ a .a ∷ a .b ∷ a .p ∷ []))) 9 ∷ [])) (c .before .before .check-named .ensures) _ (c .enum-told .given .1))
-
-enum-told-2 : tie.Need-enum-told-2
-enum-told-2 c = search needs
 
 record-fits-requires : tie.Need-record-fits-requires
 record-fits-requires c κs =
@@ -44,9 +38,6 @@ returns-2 c =
     sym (goes-on (c .before .before .before .before .check-named .result) (placed (a .i) (namedFaults (length (a .width .now)) (a .kind ∷ a .t ∷ a .a ∷ a .b ∷ a .p ∷ []))) (placed (a .i) (fault (not (widthsFit (a .width .now) (a .kind ∷ a .t ∷ a .a ∷ a .b ∷ a .p ∷ []))) 9 ∷ [])) (c .before .before .before .before .check-named .ensures) (c .before .before .enum-told2 .given .1)
     ∙ fits-passed (widthsFit (a .width .now) (a .kind ∷ a .t ∷ a .a ∷ a .b ∷ a .p ∷ [])) (a .i) (sym (c .before .record-fits .ensures) ∙ c .if1 .taken))
 
-refuse-requires : tie.Need-refuse-requires
-refuse-requires c κs = search needs
-
 returns-3 : tie.Need-returns-3
 unfolding recordFaults
 returns-3 c =
@@ -59,11 +50,11 @@ pub check-record-spec : {M : Type 1} → statement M
 check-record-spec =
     tie.close
     (tie.spec
-    check-named-requires
+    (λ c κs. search needs)
     enum-told
     returns
-    enum-told-2
+    (λ c. search needs)
     record-fits-requires
     returns-2
-    refuse-requires
+    (λ c κs. search needs)
     returns-3)

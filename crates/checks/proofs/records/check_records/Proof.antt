@@ -25,15 +25,6 @@ loop-holds c =
     let a = c .before .before .before .args in
     (omega arith, rest-start (recordWith (a .locked) (lent (a .width .now) (a .lock .now) [] [] (a .words .now))) (length (a .words .now) / 5))
 
-check-one-requires : tie.Need-check-one-requires Inv-loop μ-loop
-check-one-requires c κs = search needs
-
-enum-told : tie.Need-enum-told Inv-loop μ-loop
-enum-told c = search needs
-
-enum-told-2 : tie.Need-enum-told-2 Inv-loop μ-loop
-enum-told-2 c = search needs
-
 returns : tie.Need-returns Inv-loop μ-loop
 returns c =
     let a = c .before .before .before .before .before .before .before .before .args in
@@ -43,12 +34,6 @@ returns c =
     let n = length (a .words .now) / 5 in
     ap meant (c .enum-told2 .given .1)
     ∙ sym (l .inv .1 ∙ rest-step f n (l .i) h ∙ stops (c .before .before .check-one .result) (f (l .i)) (rising f (l .i + 1) (n - (l .i + 1))) (c .before .before .check-one .ensures) _ (c .enum-told2 .given .1))
-
-add-i : tie.Need-add-i Inv-loop μ-loop
-add-i c = omega arith
-
-loop-less : tie.Need-loop-less Inv-loop μ-loop
-loop-less c = omega arith
 
 loop-again : tie.Need-loop-again Inv-loop μ-loop
 loop-again c =
@@ -73,11 +58,11 @@ check-records-spec =
     Inv-loop
     μ-loop
     loop-holds
-    check-one-requires
-    enum-told
-    enum-told-2
+    (λ c κs. search needs)
+    (λ c. search needs)
+    (λ c. search needs)
     returns
-    add-i
-    loop-less
+    (λ c. omega arith)
+    (λ c. omega arith)
     loop-again
     returns-2)

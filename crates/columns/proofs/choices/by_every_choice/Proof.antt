@@ -15,19 +15,10 @@ Inv-loop ma va mb vb plain unknown found₀ s₀ found s = Tried plain va vb unk
 abbrev μ-loop : tie.MeasureT-loop
 μ-loop ma va mb vb plain unknown found₀ s₀ found s = s
 
-product-requires : tie.Need-product-requires Inv-loop μ-loop
-product-requires c κs = search needs
-
 loop-holds : tie.Need-loop-holds Inv-loop μ-loop
 loop-holds c =
     let a = c .before .args in
     tried-start (c .product .result) (a .va) (a .vb) _ (joined-below (a .ma) (a .mb) (c .before .fits .ma .fits) (c .before .fits .mb .fits))
-
-chosen-requires : tie.Need-chosen-requires Inv-loop μ-loop
-chosen-requires c κs = search needs
-
-sub-s : tie.Need-sub-s Inv-loop μ-loop
-sub-s c = omega arith
 
 loop-less : tie.Need-loop-less Inv-loop μ-loop
 loop-less c = let l = and-le-l (c .before .before .loop .s - 1) _ in lt-of-le-of-lt l (omega arith)
@@ -55,10 +46,10 @@ by-every-choice-spec =
     (tie.spec
     Inv-loop
     μ-loop
-    product-requires
+    (λ c κs. search needs)
     loop-holds
-    chosen-requires
-    sub-s
+    (λ c κs. search needs)
+    (λ c. omega arith)
     loop-less
     loop-again
     returns)

@@ -5,18 +5,6 @@ use Rattle.columns.proofs.Marked.{marks-or, covered-value, covered-mask
 use Rattle.columns.proofs.witnesses.seen_with.Statement.{statement}
 use Rattle.columns.proofs.witnesses.seen_with.Tie as tie
 
-differing-requires : tie.Need-differing-requires
-differing-requires c κs = search needs
-
-differing-requires-2 : tie.Need-differing-requires-2
-differing-requires-2 c κs = search needs
-
-differing-requires-3 : tie.Need-differing-requires-3
-differing-requires-3 c κs = search needs
-
-differing-requires-4 : tie.Need-differing-requires-4
-differing-requires-4 c κs = search needs
-
 returns : tie.Need-returns
 returns c =
     let a = c .before .before .before .before .args in
@@ -33,8 +21,8 @@ pub seen-with-spec : {M : Type 1} → statement M
 seen-with-spec =
     tie.close
     (tie.spec
-    differing-requires
-    differing-requires-2
-    differing-requires-3
-    differing-requires-4
+    (λ c κs. search needs)
+    (λ c κs. search needs)
+    (λ c κs. search needs)
+    (λ c κs. search needs)
     returns)

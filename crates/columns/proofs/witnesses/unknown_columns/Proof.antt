@@ -4,21 +4,6 @@ use Rattle.columns.proofs.Marked.{unknown-or, covered-value, covered-ma
 use Rattle.columns.proofs.witnesses.unknown_columns.Statement.{statement}
 use Rattle.columns.proofs.witnesses.unknown_columns.Tie as tie
 
-product-requires : tie.Need-product-requires
-product-requires c κs = search needs
-
-seen-with-requires : tie.Need-seen-with-requires
-seen-with-requires c κs = search needs
-
-seen-with-requires-2 : tie.Need-seen-with-requires-2
-seen-with-requires-2 c κs = search needs
-
-seen-with-requires-3 : tie.Need-seen-with-requires-3
-seen-with-requires-3 c κs = search needs
-
-seen-with-requires-4 : tie.Need-seen-with-requires-4
-seen-with-requires-4 c κs = search needs
-
 returns : tie.Need-returns
 returns c =
     let s = c .before .before .before .before in
@@ -36,9 +21,9 @@ pub unknown-columns-spec : {M : Type 1} → statement M
 unknown-columns-spec =
     tie.close
     (tie.spec
-    product-requires
-    seen-with-requires
-    seen-with-requires-2
-    seen-with-requires-3
-    seen-with-requires-4
+    (λ c κs. search needs)
+    (λ c κs. search needs)
+    (λ c κs. search needs)
+    (λ c κs. search needs)
+    (λ c κs. search needs)
     returns)

@@ -10,41 +10,17 @@ Inv-loop tally₀ kind₀ tally kind = kind ≤ 10
 abbrev μ-loop : tie.MeasureT-loop
 μ-loop tally₀ kind₀ tally kind = 10 - kind
 
-none-requires : tie.Need-none-requires Inv-loop μ-loop
-none-requires c κs = search needs
-
-loop-holds : tie.Need-loop-holds Inv-loop μ-loop
-loop-holds c = search needs
-
-parameter-over-requires : tie.Need-parameter-over-requires Inv-loop μ-loop
-parameter-over-requires c κs = search needs
-
-joined-requires : tie.Need-joined-requires Inv-loop μ-loop
-joined-requires c κs = search needs
-
-add-kind : tie.Need-add-kind Inv-loop μ-loop
-add-kind c = search needs
-
-loop-less : tie.Need-loop-less Inv-loop μ-loop
-loop-less c = search needs
-
-loop-again : tie.Need-loop-again Inv-loop μ-loop
-loop-again c = search needs
-
-returns : tie.Need-returns Inv-loop μ-loop
-returns c = search needs
-
 pub parameters-over-spec : {M : Type 1} → statement M
 parameters-over-spec =
     tie.close
     (tie.spec
     Inv-loop
     μ-loop
-    none-requires
-    loop-holds
-    parameter-over-requires
-    joined-requires
-    add-kind
-    loop-less
-    loop-again
-    returns)
+    (λ c κs. search needs)
+    (λ c. search needs)
+    (λ c κs. search needs)
+    (λ c κs. search needs)
+    (λ c. search needs)
+    (λ c. search needs)
+    (λ c. search needs)
+    (λ c. search needs))

@@ -10,57 +10,21 @@ Inv-loop s a end tally₀ n₀ tally n = n ≤ end
 abbrev μ-loop : tie.MeasureT-loop
 μ-loop s a end tally₀ n₀ tally n = end - n
 
-uses-second-requires : tie.Need-uses-second-requires Inv-loop μ-loop
-uses-second-requires c κs = search needs
-
-pairs-requires : tie.Need-pairs-requires Inv-loop μ-loop
-pairs-requires c κs = search needs
-
-none-requires : tie.Need-none-requires Inv-loop μ-loop
-none-requires c κs = search needs
-
-loop-holds : tie.Need-loop-holds Inv-loop μ-loop
-loop-holds c = search needs
-
-pair-requires : tie.Need-pair-requires Inv-loop μ-loop
-pair-requires c κs = search needs
-
-well-formed-requires : tie.Need-well-formed-requires Inv-loop μ-loop
-well-formed-requires c κs = search needs
-
-each-condition-requires : tie.Need-each-condition-requires Inv-loop μ-loop
-each-condition-requires c κs = search needs
-
-joined-requires : tie.Need-joined-requires Inv-loop μ-loop
-joined-requires c κs = search needs
-
-add-n : tie.Need-add-n Inv-loop μ-loop
-add-n c = search needs
-
-loop-less : tie.Need-loop-less Inv-loop μ-loop
-loop-less c = search needs
-
-loop-again : tie.Need-loop-again Inv-loop μ-loop
-loop-again c = search needs
-
-returns : tie.Need-returns Inv-loop μ-loop
-returns c = search needs
-
 pub each-second-spec : {M : Type 1} → statement M
 each-second-spec =
     tie.close
     (tie.spec
     Inv-loop
     μ-loop
-    uses-second-requires
-    pairs-requires
-    none-requires
-    loop-holds
-    pair-requires
-    well-formed-requires
-    each-condition-requires
-    joined-requires
-    add-n
-    loop-less
-    loop-again
-    returns)
+    (λ c κs. search needs)
+    (λ c κs. search needs)
+    (λ c κs. search needs)
+    (λ c. search needs)
+    (λ c κs. search needs)
+    (λ c κs. search needs)
+    (λ c κs. search needs)
+    (λ c κs. search needs)
+    (λ c. search needs)
+    (λ c. search needs)
+    (λ c. search needs)
+    (λ c. search needs))

@@ -17,15 +17,6 @@ abbrev μ-loop : tie.MeasureT-loop
 returns : tie.Need-returns Inv-loop μ-loop
 returns c = let s = c .before .before in (start-zero (s .args .text .now) (s .args .sep) (s .args .n) (c .if1 .taken), omega arith)
 
-sub-left : tie.Need-sub-left Inv-loop μ-loop
-sub-left c = omega arith
-
-loop-holds : tie.Need-loop-holds Inv-loop μ-loop
-loop-holds c = omega arith
-
-end-of-requires : tie.Need-end-of-requires Inv-loop μ-loop
-end-of-requires c κs = omega arith
-
 returns-2 : tie.Need-returns-2 Inv-loop μ-loop
 returns-2 c =
     let p2 = c .before .before in
@@ -38,15 +29,6 @@ returns-2 c =
     let start : e ≡ past (s .args .sep) (s .args .n - 1) text =
     omega (arith, past-end text (s .args .sep) (p3 .loop .at) e (p3 .loop .inv .0) (c .before .end-of .ensures .0) (p3 .loop .left) (p2 .loop-test .taken) len, p3 .loop .inv .2) in
     (start-here text (s .args .sep) (s .args .n) e (p4 .if1 .left) start, c .before .end-of .ensures .1)
-
-add-at : tie.Need-add-at Inv-loop μ-loop
-add-at c = omega arith
-
-sub-left-2 : tie.Need-sub-left-2 Inv-loop μ-loop
-sub-left-2 c = omega arith
-
-loop-less : tie.Need-loop-less Inv-loop μ-loop
-loop-less c = omega arith
 
 loop-again : tie.Need-loop-again Inv-loop μ-loop
 loop-again c =
@@ -74,12 +56,12 @@ start-of-spec =
     Inv-loop
     μ-loop
     returns
-    sub-left
-    loop-holds
-    end-of-requires
+    (λ c. omega arith)
+    (λ c. omega arith)
+    (λ c κs. omega arith)
     returns-2
-    add-at
-    sub-left-2
-    loop-less
+    (λ c. omega arith)
+    (λ c. omega arith)
+    (λ c. omega arith)
     loop-again
     returns-3)

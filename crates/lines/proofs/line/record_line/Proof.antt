@@ -5,48 +5,30 @@ use borrow.Author.Needs.{needs}
 use Rattle.lines.proofs.line.record_line.Statement.{statement}
 use Rattle.lines.proofs.line.record_line.Tie as tie
 
-kind-of-requires : tie.Need-kind-of-requires
-kind-of-requires c κs = search needs
-
 returns : tie.Need-returns
 returns c =
     let p7 = c .before .before .before .before .before .before .before in
     record-no-name (p7 .args .name .now) (p7 .args .t .now) (p7 .args .a .now) (p7 .args .b .now) (p7 .args .p .now) (c .before .kind-of .result) (c .before .kind-of .ensures) (c .if1 .taken)
-
-number-requires : tie.Need-number-requires
-number-requires c κs = search needs
 
 returns-2 : tie.Need-returns-2
 returns-2 c =
     let p9 = c .before .before .before .before .before .before .before .before .before in
     record-bad (p9 .args .name .now) (p9 .args .t .now) (p9 .args .a .now) (p9 .args .b .now) (p9 .args .p .now) 0 (c .before .number .result) (omega arith) (c .before .number .ensures) (c .if2 .taken)
 
-number-requires-2 : tie.Need-number-requires-2
-number-requires-2 c κs = search needs
-
 returns-3 : tie.Need-returns-3
 returns-3 c =
     let p11 = c .before .before .before .before .before .before .before .before .before .before .before in
     record-bad (p11 .args .name .now) (p11 .args .t .now) (p11 .args .a .now) (p11 .args .b .now) (p11 .args .p .now) 1 (c .before .number2 .result) (omega arith) (c .before .number2 .ensures) (c .if3 .taken)
-
-number-requires-3 : tie.Need-number-requires-3
-number-requires-3 c κs = search needs
 
 returns-4 : tie.Need-returns-4
 returns-4 c =
     let p13 = c .before .before .before .before .before .before .before .before .before .before .before .before .before in
     record-bad (p13 .args .name .now) (p13 .args .t .now) (p13 .args .a .now) (p13 .args .b .now) (p13 .args .p .now) 2 (c .before .number3 .result) (omega arith) (c .before .number3 .ensures) (c .if4 .taken)
 
-number-requires-4 : tie.Need-number-requires-4
-number-requires-4 c κs = search needs
-
 returns-5 : tie.Need-returns-5
 returns-5 c =
     let p15 = c .before .before .before .before .before .before .before .before .before .before .before .before .before .before .before in
     record-bad (p15 .args .name .now) (p15 .args .t .now) (p15 .args .a .now) (p15 .args .b .now) (p15 .args .p .now) 3 (c .before .number4 .result) (omega arith) (c .before .number4 .ensures) (c .if5 .taken)
-
-cast-t12 : tie.Need-cast-t12
-cast-t12 c = search needs
 
 returns-6 : tie.Need-returns-6
 returns-6 c =
@@ -67,15 +49,15 @@ pub record-line-spec : {M : Type 1} → statement M
 record-line-spec =
     tie.close
     (tie.spec
-    kind-of-requires
+    (λ c κs. search needs)
     returns
-    number-requires
+    (λ c κs. search needs)
     returns-2
-    number-requires-2
+    (λ c κs. search needs)
     returns-3
-    number-requires-3
+    (λ c κs. search needs)
     returns-4
-    number-requires-4
+    (λ c κs. search needs)
     returns-5
-    cast-t12
+    (λ c. search needs)
     returns-6)

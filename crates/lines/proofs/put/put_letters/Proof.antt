@@ -18,9 +18,6 @@ abbrev μ-loop : tie.MeasureT-loop
 loop-holds : tie.Need-loop-holds Inv-loop μ-loop
 loop-holds c = let s = c .before in (omega arith, begin (s .args .out .now) (s .args .at) (lettersOf (s .args .w) (s .args .m) (s .args .v)) (lettersOf (s .args .w) (s .args .m) (s .args .v)) refl)
 
-sub-k : tie.Need-sub-k Inv-loop μ-loop
-sub-k c = omega arith
-
 letter-of-requires : tie.Need-letter-of-requires Inv-loop μ-loop
 letter-of-requires c κs = omega (arith, c .before .before .before .pre .0)
 
@@ -35,9 +32,6 @@ add-to c =
     let p2 = c .before .before in
     let p4 = p2 .before .before in
     omega (arith, room-on (c .letter-of .result ∷ []) (lettersOf (p2 .loop .k - 1) (p4 .args .m) (p4 .args .v)) (letters-on (p2 .loop .k) (p4 .args .m) (p4 .args .v) (c .letter-of .result) (omega arith) (c .letter-of .ensures)) (p4 .pre .1) (p2 .loop .inv .1))
-
-loop-less : tie.Need-loop-less Inv-loop μ-loop
-loop-less c = omega arith
 
 loop-again : tie.Need-loop-again Inv-loop μ-loop
 loop-again c =
@@ -60,11 +54,11 @@ put-letters-spec =
     Inv-loop
     μ-loop
     loop-holds
-    sub-k
+    (λ c. omega arith)
     letter-of-requires
     slice-write-out
     add-to
-    loop-less
+    (λ c. omega arith)
     loop-again
     same-length
     returns)

@@ -8,17 +8,11 @@ use borrow.Author.Needs.{needs}
 use Rattle.lines.proofs.put.put_lock.Statement.{statement}
 use Rattle.lines.proofs.put.put_lock.Tie as tie
 
-slice-aggregate-put-word : tie.Need-slice-aggregate-put-word
-slice-aggregate-put-word c = search needs
-
 put-word-requires : tie.Need-put-word-requires
 put-word-requires c κs =
     let p2 = c .before .before in
     let p4 = p2 .before .before in
     omega (arith, p4 .pre, ap length (lock-word (p4 .args .lock) (p2 .if1 .taken)))
-
-same-length : tie.Need-same-length
-same-length c = search needs
 
 returns : tie.Need-returns
 returns c =
@@ -27,17 +21,11 @@ returns c =
     let p7 = p5 .before .before in
     subst (Put _ _ _ _) (sym (lock-word (p7 .args .lock) (p5 .if1 .taken))) (p2 .put-word .ensures)
 
-slice-aggregate-put-word-2 : tie.Need-slice-aggregate-put-word-2
-slice-aggregate-put-word-2 c = search needs
-
 put-word-requires-2 : tie.Need-put-word-requires-2
 put-word-requires-2 c κs =
     let p2 = c .before .before in
     let p4 = p2 .before .before in
     omega (arith, p4 .pre, ap length (open-word (p4 .args .lock) (p2 .if1 .left)))
-
-same-length-2 : tie.Need-same-length-2
-same-length-2 c = search needs
 
 returns-2 : tie.Need-returns-2
 returns-2 c =
@@ -50,11 +38,11 @@ pub put-lock-spec : {M : Type 1} → statement M
 put-lock-spec =
     tie.close
     (tie.spec
-    slice-aggregate-put-word
+    (λ c. search needs)
     put-word-requires
-    same-length
+    (λ c. search needs)
     returns
-    slice-aggregate-put-word-2
+    (λ c. search needs)
     put-word-requires-2
-    same-length-2
+    (λ c. search needs)
     returns-2)

@@ -38,12 +38,6 @@ add-to c =
     let p5 = p2 .before .before .before in
     omega (arith, room-on (c .name-byte .result ∷ []) (drop (p2 .loop .i + 1) (kindOf (p5 .args .k) .name)) (word-on (kindOf (p5 .args .k) .name) (p2 .loop .i) (c .name-byte .result) (omega arith) (c .name-byte .ensures)) (p5 .pre .1) (p2 .loop .inv .2))
 
-add-i : tie.Need-add-i Inv-loop μ-loop
-add-i c = omega arith
-
-loop-less : tie.Need-loop-less Inv-loop μ-loop
-loop-less c = omega arith
-
 loop-again : tie.Need-loop-again Inv-loop μ-loop
 loop-again c =
     let p2 = c .before .before in
@@ -69,8 +63,8 @@ put-name-spec =
     name-byte-requires
     slice-write-out
     add-to
-    add-i
-    loop-less
+    (λ c. omega arith)
+    (λ c. omega arith)
     loop-again
     same-length
     returns)

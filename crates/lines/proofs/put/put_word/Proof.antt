@@ -18,9 +18,6 @@ abbrev μ-loop : tie.MeasureT-loop
 loop-holds : tie.Need-loop-holds Inv-loop μ-loop
 loop-holds c = (omega arith, begin (c .args .out .now) (c .args .at) (c .args .w .now) (c .args .w .now) refl)
 
-shared-slice-read-out : tie.Need-shared-slice-read-out Inv-loop μ-loop
-shared-slice-read-out c = omega arith
-
 slice-write-out : tie.Need-slice-write-out Inv-loop μ-loop
 slice-write-out c =
     let p2 = c .before .before in
@@ -32,12 +29,6 @@ add-to c =
     let p2 = c .before .before in
     let p3 = p2 .before in
     omega (arith, room-on (getD (p3 .args .w .now) (p2 .loop .i) 0 ∷ []) (drop (p2 .loop .i + 1) (p3 .args .w .now)) (word-on (p3 .args .w .now) (p2 .loop .i) _ (omega arith) refl) (p3 .pre) (p2 .loop .inv .1))
-
-add-i : tie.Need-add-i Inv-loop μ-loop
-add-i c = omega arith
-
-loop-less : tie.Need-loop-less Inv-loop μ-loop
-loop-less c = omega arith
 
 loop-again : tie.Need-loop-again Inv-loop μ-loop
 loop-again c =
@@ -58,11 +49,11 @@ put-word-spec =
     Inv-loop
     μ-loop
     loop-holds
-    shared-slice-read-out
+    (λ c. omega arith)
     slice-write-out
     add-to
-    add-i
-    loop-less
+    (λ c. omega arith)
+    (λ c. omega arith)
     loop-again
     same-length
     returns)

@@ -25,9 +25,6 @@ returns c =
 loop-holds : tie.Need-loop-holds Inv-loop μ-loop
 loop-holds c = (refl, sym (c .before .name-len .ensures) ∙ c .if1 .left, omega arith, λ k h. absurd (omega arith))
 
-shared-slice-read-if2 : tie.Need-shared-slice-read-if2 Inv-loop μ-loop
-shared-slice-read-if2 c = omega arith
-
 name-byte-requires : tie.Need-name-byte-requires Inv-loop μ-loop
 name-byte-requires c κs = (c .before .before .before .before .before .before .pre, omega arith)
 
@@ -36,12 +33,6 @@ returns-2 c =
     let p4 = c .before .before .before .before in
     let s = p4 .before .before .before .before in
     other-byte (s .args .f .now) (kindOf (s .args .k) .name) (p4 .loop .i) (λ e. c .if2 .taken (e ∙ sym (c .before .name-byte .ensures)))
-
-add-i : tie.Need-add-i Inv-loop μ-loop
-add-i c = omega arith
-
-loop-less : tie.Need-loop-less Inv-loop μ-loop
-loop-less c = omega arith
 
 loop-again : tie.Need-loop-again Inv-loop μ-loop
 loop-again c =
@@ -61,10 +52,10 @@ is-name-spec =
     name-len-requires
     returns
     loop-holds
-    shared-slice-read-if2
+    (λ c. omega arith)
     name-byte-requires
     returns-2
-    add-i
-    loop-less
+    (λ c. omega arith)
+    (λ c. omega arith)
     loop-again
     returns-3)

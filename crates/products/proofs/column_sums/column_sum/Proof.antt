@@ -18,12 +18,6 @@ Inv-loop a b k total₀ rest₀ total rest = (rest < 2 ^ (k + 1)) × Left k a b 
 abbrev μ-loop : tie.MeasureT-loop
 μ-loop a b k total₀ rest₀ total rest = rest
 
-add-width-mask : tie.Need-add-width-mask Inv-loop μ-loop
-add-width-mask c = search needs
-
-width-mask-requires : tie.Need-width-mask-requires Inv-loop μ-loop
-width-mask-requires c κs = search needs
-
 loop-holds : tie.Need-loop-holds Inv-loop μ-loop
 loop-holds c =
     let a = c .before .args in
@@ -40,9 +34,6 @@ add-total c =
     let s = c .before .before .before .before in
     let l = c .before .before .loop in
     turn-fits (s .args .k) (l .rest) (s .pre) (c .before .loop-test .taken) (l .inv .0) (s .args .a) (s .args .b) (l .total) (c .row .result) (l .inv .1) (c .row .ensures)
-
-sub-rest : tie.Need-sub-rest Inv-loop μ-loop
-sub-rest c = omega arith
 
 loop-less : tie.Need-loop-less Inv-loop μ-loop
 loop-less c = clear-less (c .before .before .loop .rest) (c .before .loop-test .taken)
@@ -68,12 +59,12 @@ column-sum-spec =
     (tie.spec
     Inv-loop
     μ-loop
-    add-width-mask
-    width-mask-requires
+    (λ c. search needs)
+    (λ c κs. search needs)
     loop-holds
     row-requires
     add-total
-    sub-rest
+    (λ c. omega arith)
     loop-less
     loop-again
     returns)

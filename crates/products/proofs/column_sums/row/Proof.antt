@@ -37,23 +37,8 @@ lowered k l s h =
     minus-unique _ _ _ _ _ _ (minus-pos (l + 2 ^ k * (1 - s)) (2 ^ k)) (minus-pos l (2 ^ k * s))
     (omega (arith, mul-add (2 ^ k) (1 - s) s, ap (λ (x : ℕ). 2 ^ k * x) e, mul-one (2 ^ k)))
 
-shl-half : tie.Need-shl-half
-shl-half c = search needs
-
-shl-raised : tie.Need-shl-raised
-shl-raised c = search needs
-
-add-width-mask : tie.Need-add-width-mask
-add-width-mask c = search needs
-
-width-mask-requires : tie.Need-width-mask-requires
-width-mask-requires c κs = search needs
-
 cast-result : tie.Need-cast-result
 cast-result c = record { sfits = omega (arith, word-lt c) }
-
-cast-result-2 : tie.Need-cast-result-2
-cast-result-2 c = search needs
 
 sub-result : tie.Need-sub-result
 sub-result c = sub-fits (word c) (half c) (omega (arith, word-lt c)) (omega (arith, half-lt c))
@@ -71,11 +56,11 @@ pub row-spec : {M : Type 1} → statement M
 row-spec =
     tie.close
     (tie.spec
-    shl-half
-    shl-raised
-    add-width-mask
-    width-mask-requires
+    (λ c. search needs)
+    (λ c. search needs)
+    (λ c. search needs)
+    (λ c κs. search needs)
     cast-result
-    cast-result-2
+    (λ c. search needs)
     sub-result
     returns)

@@ -7,30 +7,6 @@ use Rattle.products.specs.Factors.{andNot, leastFactor, greatestFactor, 
 use Rattle.products.proofs.factors.extreme_factors.Statement.{statement}
 use Rattle.products.proofs.factors.extreme_factors.Tie as tie
 
-partners-requires : tie.Need-partners-requires
-partners-requires c κs = search needs
-
-partners-requires-2 : tie.Need-partners-requires-2
-partners-requires-2 c κs = search needs
-
-partners-requires-3 : tie.Need-partners-requires-3
-partners-requires-3 c κs = search needs
-
-and-not-requires : tie.Need-and-not-requires
-and-not-requires c κs = search needs
-
-partners-requires-4 : tie.Need-partners-requires-4
-partners-requires-4 c κs = search needs
-
-and-not-requires-2 : tie.Need-and-not-requires-2
-and-not-requires-2 c κs = search needs
-
-and-not-requires-3 : tie.Need-and-not-requires-3
-and-not-requires-3 c κs = search needs
-
-and-not-requires-4 : tie.Need-and-not-requires-4
-and-not-requires-4 c κs = search needs
-
 returns : tie.Need-returns
 unfolding extremesOf leastFactor greatestFactor
 returns c =
@@ -53,12 +29,12 @@ pub extreme-factors-spec : {M : Type 1} → statement M
 extreme-factors-spec =
     tie.close
     (tie.spec
-    partners-requires
-    partners-requires-2
-    partners-requires-3
-    and-not-requires
-    partners-requires-4
-    and-not-requires-2
-    and-not-requires-3
-    and-not-requires-4
+    (λ c κs. search needs)
+    (λ c κs. search needs)
+    (λ c κs. search needs)
+    (λ c κs. search needs)
+    (λ c κs. search needs)
+    (λ c κs. search needs)
+    (λ c κs. search needs)
+    (λ c κs. search needs)
     returns)

@@ -9,30 +9,6 @@ use Rattle.bits.proofs.Words.{shifted-bit}
 use Rattle.products.proofs.factors.with_pair.Statement.{statement}
 use Rattle.products.proofs.factors.with_pair.Tie as tie
 
-sub-j : tie.Need-sub-j
-sub-j c = search needs
-
-least-bit-requires : tie.Need-least-bit-requires
-least-bit-requires c κs = search needs
-
-greatest-bit-requires : tie.Need-greatest-bit-requires
-greatest-bit-requires c κs = search needs
-
-shl-t9 : tie.Need-shl-t9
-shl-t9 c = search needs
-
-shl-t11 : tie.Need-shl-t11
-shl-t11 c = search needs
-
-shl-t9-2 : tie.Need-shl-t9-2
-shl-t9-2 c = search needs
-
-sub-t11 : tie.Need-sub-t11
-sub-t11 c = omega arith
-
-shl-t10 : tie.Need-shl-t10
-shl-t10 c = search needs
-
 returns : tie.Need-returns
 unfolding withPair
 returns c =
@@ -55,12 +31,12 @@ pub with-pair-spec : {M : Type 1} → statement M
 with-pair-spec =
     tie.close
     (tie.spec
-    sub-j
-    least-bit-requires
-    greatest-bit-requires
-    shl-t9
-    shl-t11
-    shl-t9-2
-    sub-t11
-    shl-t10
+    (λ c. search needs)
+    (λ c κs. search needs)
+    (λ c κs. search needs)
+    (λ c. search needs)
+    (λ c. search needs)
+    (λ c. search needs)
+    (λ c. omega arith)
+    (λ c. search needs)
     returns)

@@ -8,15 +8,6 @@ use borrow.Author.Needs.{needs}
 use Rattle.texts.proofs.trips.write_then_read.Statement.{statement}
 use Rattle.texts.proofs.trips.write_then_read.Tie as tie
 
-write-requires : tie.Need-write-requires
-write-requires c κs = search needs
-
-enum-known-written : tie.Need-enum-known-written
-enum-known-written c = search needs
-
-enum-known-written-2 : tie.Need-enum-known-written-2
-enum-known-written-2 c = search needs
-
 slice-reshare-prefix-read : tie.Need-slice-reshare-prefix-read
 slice-reshare-prefix-read c =
     let r = c .before .before .before .before .before in
@@ -32,36 +23,12 @@ slice-aggregate-read c =
     let t = lent (s .args .width .now) (s .args .lock .now) (s .args .mask .now) (s .args .value .now) (s .args .words .now) in
     sym (length-take-le _ (r .write .last .1 .1 .1 .1 .1 .0) (write-room t (s .args .out .now) (r .write .result) (r .write .ensures) _ (p2 .written2 .given .1)))
 
-read-requires : tie.Need-read-requires
-read-requires c κs = search needs
-
-same-length : tie.Need-same-length
-same-length c = search needs
-
 returns : tie.Need-returns
 returns c =
     let r = c .before .before .before .before .before in
     let s = r .before .before .before .before .before .before .before .before .before .before .before .before .before in
     let t = lent (s .args .width .now) (s .args .lock .now) (s .args .mask .now) (s .args .value .now) (s .args .words .now) in
     not-written t (s .args .out .now) (r .write .result) (r .write .ensures) _ (c .before .written .given .1) _ _
-
-same-length-2 : tie.Need-same-length-2
-same-length-2 c = search needs
-
-same-length-3 : tie.Need-same-length-3
-same-length-3 c = search needs
-
-same-length-4 : tie.Need-same-length-4
-same-length-4 c = search needs
-
-same-length-5 : tie.Need-same-length-5
-same-length-5 c = search needs
-
-same-length-6 : tie.Need-same-length-6
-same-length-6 c = search needs
-
-same-length-7 : tie.Need-same-length-7
-same-length-7 c = search needs
 
 returns-2 : tie.Need-returns-2
 returns-2 c =
@@ -76,18 +43,18 @@ pub write-then-read-spec : {M : Type 1} → statement M
 write-then-read-spec =
     tie.close
     (tie.spec
-    write-requires
-    enum-known-written
-    enum-known-written-2
+    (λ c κs. search needs)
+    (λ c. search needs)
+    (λ c. search needs)
     slice-reshare-prefix-read
     slice-aggregate-read
-    read-requires
-    same-length
+    (λ c κs. search needs)
+    (λ c. search needs)
     returns
-    same-length-2
-    same-length-3
-    same-length-4
-    same-length-5
-    same-length-6
-    same-length-7
+    (λ c. search needs)
+    (λ c. search needs)
+    (λ c. search needs)
+    (λ c. search needs)
+    (λ c. search needs)
+    (λ c. search needs)
     returns-2)
