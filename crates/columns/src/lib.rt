@@ -8,6 +8,9 @@ pub mod choices; // choices.rt: every choice of the unknown bits, where they are
 mod reach; // reach.rt: the columns that no unknown bit reaches
 pub mod witnesses; // witnesses.rt: sixteen choices
 
+// 2^32.
+const WORD: u64 = 4294967296;
+
 // a · b, exact.
 pub fn exact_product(a: u32, b: u32) -> u64
     ensures { λ r. ⌜ r ≡ a * b ⌝ }
@@ -19,7 +22,7 @@ pub fn exact_product(a: u32, b: u32) -> u64
 pub fn product(a: u32, b: u32) -> u32
     ensures { λ r. ⌜ r ≡ a * b % 2 ^ 32 ⌝ }
 {
-    (exact_product(a, b) % 4294967296) as u32
+    (exact_product(a, b) % WORD) as u32
 }
 
 // The ones below column n: all 32 where n is more.

@@ -5,9 +5,9 @@ ghost use Rattle.columns.specs.Choices.{difference, Witness};
 use crate::product;
 
 // Every second bit, and every second pair of bits.
-const ALTERNATING: u32 = 1431655765;
+const ALTERNATING: u32 = 0x5555_5555;
 
-const BY_TWOS: u32 = 858993459;
+const BY_TWOS: u32 = 0x3333_3333;
 
 // The columns in which a times b differs from the plain product.
 pub fn differing(plain: u32, a: u32, b: u32) -> u32

@@ -28,6 +28,9 @@ use vectors::Vector;
 mod column_sums; // column_sums.rt: column sums, held as i64
 mod factors; // factors.rt: the factors at which the column sum is least and greatest
 
+// So many unknown bits, in both operands together, are tried in every choice.
+const FEW: u32 = 6;
+
 // Bit k of the product, with the operands' reversed words. Two pairs of column k unknown on both sides make the bit unknown; a lone one has its
 // bits set first.
 fn column_bit(ma: u32, va: u32, mb: u32, vb: u32, reverses: FourWords, k: u32) -> OutputBit
@@ -96,7 +99,7 @@ fn unknown_below(w: u32, ma: u32, va: u32, mb: u32, vb: u32) -> u32
     requires { ⌜ (1 ≤ w) × Formed w ma va mb vb ⌝ }
     ensures { λ r. ⌜ ((k : ℕ) → k < w → bit r k ≡ bit (productOf w ma va mb vb .mask) k) ⌝ }
 {
-    if u32::count_ones(ma) + u32::count_ones(mb) <= 6 {
+    if u32::count_ones(ma) + u32::count_ones(mb) <= FEW {
         return by_every_choice(ma, va, mb, vb);
     }
     let seen = unknown_columns(ma, va, mb, vb);
