@@ -1,4 +1,5 @@
--- Covered numbers of an operand, and what a product of them shows of a column. Cited by the contracts of inner functions alone.
+-- Covered numbers of an operand (01, "Vectors and rows"), and what a product of them shows of a column (01, "Abstract result"). Cited by the contracts
+-- of inner functions alone.
 --   Covered m v n                n is covered by the vector (m, v), at every width at which it is well formed
 --   difference plain a b         the columns in which a · b differs from the plain product
 --   differenceAt plain va vb s   the same where s has the unknown bits that are set, those of the first operand in its low half

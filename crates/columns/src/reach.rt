@@ -2,7 +2,8 @@
 ghost use Rattle.columns.specs.Settled.{KnownBelow, KnownFrom};
 use crate::exact_product;
 
-// No unknown bit changes a column below this: bit i of one operand adds to no column below i and the lowest bit that the other can have.
+// No unknown bit changes a column below this: bit i of one operand adds to no column below i + j, where j is the lowest bit that the other
+// can have.
 pub fn first_reached(ma: u32, va: u32, mb: u32, vb: u32) -> u32
     ensures { λ r. ⌜ KnownBelow ma va mb vb r ⌝ }
 {

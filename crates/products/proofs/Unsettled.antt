@@ -1,12 +1,13 @@
 -- The unknown columns put together from those that plain products settle and those that are worked out. Assumes nothing.
 --   Worked m u found rest   of the columns in u, those in rest are left; found has the unknown ones of the others, m being the product's mask
+--   granted-word, granted-below   what `unknown_among` takes for granted of each column in u
 --   settled-or-worked       the unknown columns, from both
 --   known-operands          no column is unknown if no bit of an operand is
 use mathlib.Core.Path.{_≡_, sym, ap, _∙_}
 use mathlib.Core.Logic.{_≢_, inl, inr}
-use Prim.Native.Nat.{ℕ, zero, suc, _-_, _*_, _^_, _≤_, _<_, min, max}
-use native.Mathlib.Nat.{le-refl, one-mul}
-use native.Mathlib.Decide.{ℕ-discrete}
+use Prim.Native.Nat.{ℕ, zero, suc, _-_, _*_, _^_, _<_, min, max}
+use native.Mathlib.Nat.{one-mul}
+use native.Mathlib.Decide.{decLt, ℕ-discrete}
 use native.Mathlib.Omega.{arith}
 use lib.Bits.{bitAnd, bitOr, or-add-and, or-lt, and-le-l, and-le-r, and-lt}
 use lib.Count.{trailingZeros}
@@ -17,8 +18,10 @@ use Rattle.bits.proofs.Numbers.{below-of-bits}
 use Rattle.bits.proofs.LowestBit.{lowest, clear-at, clear-other}
 use Rattle.vectors.specs.Row.{row}
 use Rattle.vectors.proofs.BestLaws.{known-covers}
-use Rattle.columns.specs.Settled.{productOf, Formed, AllUnknown, AllKnown}
+use Rattle.columns.specs.Settled.{productOf, Formed, Marks, AllUnknown, AllKnown}
 use Rattle.columns.proofs.ProductMask.{product-steady}
+use Rattle.columns.proofs.Parts.{Part}
+use Rattle.products.specs.Granted.{Granted}
 
 -- ---- one column of a word
 
@@ -34,20 +37,18 @@ column-other (suc (suc s)) k j h d = absurd (omega arith)
 
 -- ---- the columns that are worked out
 
-pub record Worked (m u found rest : ℕ) : Type 0 where
-  pub left : (j : ℕ) → bit rest j ≤ bit u j
-  pub done : (j : ℕ) → bit found j ≡ min (bit u j - bit rest j) (bit m j)
+abbrev pub Worked : ℕ → ℕ → ℕ → ℕ → Type 0
+Worked m u found rest = (j : ℕ) → bit found j ≡ min (bit u j - bit rest j) (bit m j)
 
 pub worked-start : (m u : ℕ) → Worked m u 0 u
-worked-start m u = record { left = λ j. le-refl (bit u j); done = λ j. bit-of-zero j ∙ omega arith }
+worked-start m u j = bit-of-zero j ∙ omega arith
+
+pub left-next : (u rest : ℕ) → Part u rest → Part u (bitAnd rest (rest - 1))
+left-next u rest p j = let x = bit-and rest (rest - 1) j in let y = p j in omega arith
 
 pub worked-next : (v m u found rest d : ℕ) → rest ≢ 0 → rest < 2 ^ v → d ≡ bit m (trailingZeros v rest) * 2 ^ trailingZeros v rest
-    → Worked m u found rest → Worked m u (bitOr found d) (bitAnd rest (rest - 1))
-worked-next v m u found rest d n l e W =
-    record {
-      left = λ j. let x = bit-and rest (rest - 1) j in let y = W .left j in omega arith;
-      done = λ j. bit-or found d j ∙ elim (ℕ-discrete j (trailingZeros v rest)) [ yes f ↦ at j f | no f ↦ other j f ];
-    }
+    → Part u rest → Worked m u found rest → Worked m u (bitOr found d) (bitAnd rest (rest - 1))
+worked-next v m u found rest d n l e p W j = bit-or found d j ∙ elim (ℕ-discrete j (trailingZeros v rest)) [ yes f ↦ at j f | no f ↦ other j f ]
   where
     at : (j : ℕ) → j ≡ trailingZeros v rest → max (bit found j) (bit d j) ≡ min (bit u j - bit (bitAnd rest (rest - 1)) j) (bit m j)
     at j f =
@@ -57,8 +58,8 @@ worked-next v m u found rest d n l e W =
         ∙ ap (bit m) (sym f) in
         let b = ap (bit rest) f ∙ lowest v rest n l .1 in
         let c = ap (bit (bitAnd rest (rest - 1))) f ∙ clear-at v rest n l in
-        let g = W .left j in
-        let h = W .done j in
+        let g = p j in
+        let h = W j in
         let i = bit-lt u j in
         let k = bit-lt m j in
         omega arith
@@ -67,11 +68,8 @@ worked-next v m u found rest d n l e W =
     other j f =
         let a : bit d j ≡ 0 = ap (λ (x : ℕ). bit x j) e ∙ column-other (bit m (trailingZeros v rest)) (trailingZeros v rest) j (bit-lt m (trailingZeros v rest)) f in
         let c = clear-other v rest n l j f in
-        let h = W .done j in
+        let h = W j in
         omega arith
-
-pub worked-below : (w m u found rest : ℕ) → u < 2 ^ w → Worked m u found rest → rest < 2 ^ w
-worked-below w m u found rest h W = below-of-bits w rest (λ j l. let x = W .left j in let y = bit-above w u j h l in omega arith)
 
 pub worked-end : (w m u found rest : ℕ) → u < 2 ^ w → m < 2 ^ w → rest ≡ 0 → Worked m u found rest → found ≡ bitAnd u m
 worked-end w m u found rest h i z W =
@@ -79,7 +77,26 @@ worked-end w m u found rest h i z W =
     (λ j l. at j ∙ sym (bit-and u m j))
   where
     at : (j : ℕ) → bit found j ≡ min (bit u j) (bit m j)
-    at j = let x = ap (λ (n : ℕ). bit n j) z ∙ bit-of-zero j in let y = W .done j in omega arith
+    at j = let x = ap (λ (n : ℕ). bit n j) z ∙ bit-of-zero j in let y = W j in omega arith
+
+-- ---- what is taken for granted of each column
+
+module _ (ma va mb vb : ℕ) where
+  pub granted-word : (n : ℕ) → Marks (Granted ma va mb vb) n → n < 2 ^ 32
+  granted-word n M = below-of-bits 32 n (λ k l. elim (bit-cases n k) [
+    | inl e ↦ e
+    | inr e ↦ let g = M k e in absurd (omega (arith, g .most, g .below))
+  ])
+
+  pub granted-below : (w n : ℕ) → Formed w ma va mb vb → n < 2 ^ w → Marks (Granted ma va mb vb) n
+  granted-below w n F h k e =
+      record {
+        width = w;
+        most = F .most;
+        below = elim (decLt k w) [ yes l ↦ l | no l ↦ absurd (omega (arith, bit-above w n k h (omega arith))) ];
+        first = F .first;
+        second = F .second;
+      }
 
 -- ---- what is settled and what is not
 

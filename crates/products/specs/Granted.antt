@@ -1,9 +1,7 @@
 -- What the routine for one product bit takes for granted (01, "Products").
---   Open ma va mb vb n      .. and every column that is set in n is below it
 --   Granted ma va mb vb k   the masks and values are those of well-formed vectors of one width, and bit k is below it
-use Prim.Native.Nat.{ℕ, _^_, _≤_, _<_}
+use Prim.Native.Nat.{ℕ, _≤_, _<_}
 use Rattle.vectors.specs.Row.{row, WellFormed}
-use Rattle.columns.specs.Settled.{Formed}
 
 -- "it may take for granted well-formed vectors of one width and a bit below it"; a width is 1 to 32
 pub record Granted (ma va mb vb k : ℕ) : Type 0 where
@@ -12,9 +10,3 @@ pub record Granted (ma va mb vb k : ℕ) : Type 0 where
   pub below : k < width
   pub first : WellFormed (row width ma va)
   pub second : WellFormed (row width mb vb)
-
--- the same for every column that is set in n
-pub record Open (ma va mb vb n : ℕ) : Type 0 where
-  pub width : ℕ
-  pub formed : Formed width ma va mb vb
-  pub below : n < 2 ^ width

@@ -8,9 +8,9 @@ ghost use Rattle.bits.specs.Four.{reversedWords};
 ghost use Rattle.vectors.specs.Row.{row, WellFormed};
 ghost use Rattle.operations.specs.Arithmetic.{opMul};
 ghost use Rattle.operations.specs.Result.{resultOf, Ready};
-ghost use Rattle.columns.specs.Settled.{productOf, Formed};
+ghost use Rattle.columns.specs.Settled.{productOf, Formed, Marks};
 ghost use Rattle.products.specs.OutputBits.{outputBit, maskBit};
-ghost use Rattle.products.specs.Granted.{Granted, Open};
+ghost use Rattle.products.specs.Granted.{Granted};
 use bits::FourWords;
 use bits::reverse_words;
 use bits::width_mask;
@@ -79,7 +79,7 @@ fn unknown_column(ma: u32, va: u32, mb: u32, vb: u32, reverses: FourWords, k: u3
 
 // Of the columns in `unsettled` those that are unknown, each worked out by itself.
 fn unknown_among(unsettled: u32, ma: u32, va: u32, mb: u32, vb: u32) -> u32
-    requires { ⌜ Open ma va mb vb unsettled ⌝ }
+    requires { ⌜ Marks (Granted ma va mb vb) unsettled ⌝ }
     ensures { λ r. ⌜ ((w : ℕ) → Formed w ma va mb vb → unsettled < 2 ^ w → r ≡ bitAnd unsettled (productOf w ma va mb vb .mask)) ⌝ }
 {
     let reverses = reverse_words(ma, va, mb, vb);

@@ -5,7 +5,7 @@ use Prim.Native.Nat.{ℕ, _-_, _^_, _<_}
 use native.Mathlib.Omega.{arith}
 use lib.Bits.{bitAnd, bitOr, mask-lt}
 use lib.Count.{ones-le}
-use Rattle.products.proofs.Unsettled.{settled-or-worked}
+use Rattle.products.proofs.Unsettled.{granted-below, settled-or-worked}
 use Rattle.products.proofs.unknown_below.Statement.{statement}
 use Rattle.products.proofs.unknown_below.Tie as tie
 
@@ -21,9 +21,9 @@ returns c k h = let s = c .before .before in sym (c .by-every-choice .ensures (s
 unknown-among-requires : tie.Need-unknown-among-requires
 unknown-among-requires c κs =
     let s = c .before .before .before .before in
-    let w = s .args .w in
+    let a = s .args in
     let x = 2 ^ 32 - 1 - bitOr (c .before .before .unknown-columns .result) (c .before .known-columns .result) in
-    record { width = w; formed = s .pre .1; below = subst (λ (n : ℕ). bitAnd x n < 2 ^ w) (sym (c .width-mask .ensures)) (mask-lt x w) }
+    granted-below (a .ma) (a .va) (a .mb) (a .vb) (a .w) _ (s .pre .1) (subst (λ (n : ℕ). bitAnd x n < 2 ^ a .w) (sym (c .width-mask .ensures)) (mask-lt x (a .w)))
 
 returns-2 : tie.Need-returns-2
 returns-2 c =
