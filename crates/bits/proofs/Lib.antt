@@ -1,4 +1,4 @@
--- The laws of bits, and the proofs of the functions of `bits`.
+-- The laws and proofs of `bits`.
 pub mod Bools
 pub mod Bits
 pub mod Below

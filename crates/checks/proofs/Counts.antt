@@ -9,11 +9,11 @@ use Rattle.checks.specs.Check.{done, Check, placed, Passed}
 use Rattle.checks.specs.Table.{Table}
 use Rattle.checks.specs.Checks.{rowShapeFaults, rowFaultsAt, rowChecks, rowOutside, countChecks}
 use Rattle.checks.specs.Accepted.{RowPassed}
-use Rattle.checks.specs.Meant.{judged}
-use Rattle.checks.specs.Coded.{RowSlices}
+use Rattle.checks.specs.Model.{judged}
+use Rattle.checks.specs.Encoding.{RowSlices}
 use Rattle.checks.proofs.Verdicts.{passed-left, passed-right, rising-elim, passed-of-done}
 use Rattle.checks.proofs.RowChecks.{row-of-passed}
-use Rattle.checks.proofs.Walks.{slices-of-shape}
+use Rattle.checks.proofs.VerdictParts.{slices-of-shape}
 
 module _ (t : Table) (i : ℕ) (e : judged (countChecks t i) ≡ done tt) where
   abbrev shape : List Check

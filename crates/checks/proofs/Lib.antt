@@ -1,8 +1,9 @@
+-- The laws and proofs of `checks`.
 pub mod Verdicts
 pub mod RowChecks
 pub mod Accepts
 pub mod Rules
-pub mod Walks
+pub mod VerdictParts
 pub mod Naming
 pub mod Recording
 pub mod Counts

@@ -10,8 +10,8 @@ use Rattle.operations.specs.Record.{fault, targetWord, recordFaults, lockFault}
 use Rattle.checks.specs.Check.{done, refused, Check, verdict, placed, rising}
 use Rattle.checks.specs.Table.{Table, recordCount, recordOf}
 use Rattle.checks.specs.Checks.{recordChecks, openChecks}
-use Rattle.checks.specs.Meant.{judged}
-use Rattle.checks.specs.Coded.{lockWith, recordWith, recordsWith}
+use Rattle.checks.specs.Model.{judged}
+use Rattle.checks.specs.Encoding.{lockWith, recordWith, recordsWith}
 
 -- ---- check 9
 

@@ -9,11 +9,11 @@ use lib.Arith.{le→nltb, lt→nleb}
 use lib.ListN.{length, getD}
 use lib.Bits.{bitAnd}
 use Rattle.bits.proofs.Bools.{eq→eqb, T-not-not, not-not-T}
-use Rattle.vectors.specs.Lists.{Each}
+use Rattle.vectors.specs.Lists.{All}
 use Rattle.vectors.proofs.Rows.{apart-of-and, and-of-apart}
 use Rattle.operations.specs.Kind.{Use, asRow, asNumber, unused}
 use Rattle.operations.specs.Kinds.{isKind}
-use Rattle.operations.specs.Record.{kindWord, targetWord, firstWord, secondWord, parameterWord, kindIn, widthAt, used, rowsNamed, outside, widthsFit, recordFaults}
+use Rattle.operations.specs.Record.{kindWord, targetWord, firstWord, secondWord, parameterWord, kindIn, widthAt, used, rowsNamed, wordOutside, widthsFit, recordFaults}
 use Rattle.checks.specs.Check.{placed, Passed}
 use Rattle.checks.specs.Table.{Table}
 use Rattle.checks.specs.Checks.{rowFaultsAt}
@@ -65,12 +65,12 @@ passed-of-row t i j R = (
 
 -- ---- records
 
-row-in : (u : Use) (n word : ℕ) (rows : List ℕ) → T (not (outside n u word)) → Each (λ i. i < n) rows → Each (λ i. i < n) (used u word rows)
+row-in : (u : Use) (n word : ℕ) (rows : List ℕ) → T (not (wordOutside n u word)) → All (λ i. i < n) rows → All (λ i. i < n) (used u word rows)
 row-in asRow n word rows p e = (nleb→lt n word p, e)
 row-in asNumber n word rows p e = e
 row-in unused n word rows p e = e
 
-not-outside : (u : Use) (n word : ℕ) (rows : List ℕ) → Each (λ i. i < n) (used u word rows) → T (not (outside n u word)) × Each (λ i. i < n) rows
+not-outside : (u : Use) (n word : ℕ) (rows : List ℕ) → All (λ i. i < n) (used u word rows) → T (not (wordOutside n u word)) × All (λ i. i < n) rows
 not-outside asRow n word rows e = (lt→nleb n word (e .0), e .1)
 not-outside asNumber n word rows e = (tt, e)
 not-outside unused n word rows e = (tt, e)

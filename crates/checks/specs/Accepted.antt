@@ -9,7 +9,7 @@ use mathlib.Core.List.{List}
 use Prim.Native.Nat.{ℕ, _%_, _≤_, _<_}
 use lib.Dec.{T}
 use lib.ListN.{length, getD}
-use Rattle.vectors.specs.Lists.{Each}
+use Rattle.vectors.specs.Lists.{All}
 use Rattle.vectors.specs.Row.{WellFormed}
 use Rattle.operations.specs.Limits.{recordWords}
 use Rattle.operations.specs.Kinds.{isKind}
@@ -26,7 +26,7 @@ pub record RowPassed (t : Table) (i : ℕ) : Type 0 where
 pub record RecordPassed (widths words : List ℕ) : Type 0 where
   pub kind-known : T (isKind (kindWord words))
   pub target-in : targetWord words < length widths
-  pub operands-in : Each (λ i. i < length widths) (rowsNamed words)
+  pub operands-in : All (λ i. i < length widths) (rowsNamed words)
   pub first-used : T (not (misused (kindIn words .use-a) (firstWord words)))
   pub second-used : T (not (misused (kindIn words .use-b) (secondWord words)))
   pub parameter-used : T (not (misused (kindIn words .use-p) (parameterWord words)))

@@ -9,7 +9,7 @@ use mathlib.Core.Bool.{Bool, not, cond}
 use mathlib.Core.List.{List, [], _∷_, _++_, map}
 use Prim.Native.Nat.{ℕ, zero, suc}
 use lib.Dec.{T}
-use Rattle.vectors.specs.Lists.{Each}
+use Rattle.vectors.specs.Lists.{All}
 use Rattle.operations.specs.Record.{Fault}
 
 pub data Answer (A : Type 0) : Type 0 where
@@ -34,4 +34,4 @@ rising f i zero = []
 rising f i (suc n) = f i ++ rising f (suc i) n
 
 abbrev pub Passed : List Check → Type 0
-Passed cs = Each (λ c. T (not (c .fails))) cs
+Passed cs = All (λ c. T (not (c .fails))) cs

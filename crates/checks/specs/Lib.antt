@@ -1,7 +1,8 @@
+-- The definitions of `checks`.
 pub mod Limits
 pub mod Check
 pub mod Table
 pub mod Checks
 pub mod Accepted
-pub mod Coded
-pub mod Meant
+pub mod Encoding
+pub mod Model

@@ -4,14 +4,14 @@ ghost use mathlib.Core.List.{[]};
 ghost use lib.ListN.{length};
 ghost use Rattle.checks.specs.Check.{refused, placed};
 ghost use Rattle.checks.specs.Checks.{rowShapeFaults, wordFaults, stretchFaults, sizeChecks, runChecks, countChecks};
-ghost use Rattle.checks.specs.Coded.{RowSlices, headChecks, bodyChecks};
+ghost use Rattle.checks.specs.Encoding.{RowSlices, headChecks, bodyChecks};
 ghost use Prim.Native.Nat.{_≤_};
 use limits::RECORD_LIMIT;
 use limits::RECORD_WORDS;
 use limits::ROW_LIMIT;
 use records::check_records;
 use rows::check_rows;
-ghost use Rattle.checks.specs.Meant.{lent, meant, judged};
+ghost use Rattle.checks.specs.Model.{lent, verdictModel, judged};
 
 pub mod described; // described.rt: what each kind uses and asks of the widths
 pub mod limits; // limits.rt: numbers that 01 sets
@@ -32,7 +32,7 @@ pub enum Verdict {
 
 // A refusal at a place.
 pub fn refuse(number: u32, place: usize) -> Verdict
-    ensures { λ r. ⌜ meant r ≡ refused number place ⌝ }
+    ensures { λ r. ⌜ verdictModel r ≡ refused number place ⌝ }
 {
     Verdict::Refused(Refusal {
         number: number,
@@ -42,7 +42,7 @@ pub fn refuse(number: u32, place: usize) -> Verdict
 
 // Checks 1 and 2.
 pub fn check_shape(width: &[u8], lock: &[u8], mask: &[u32], value: &[u32]) -> Verdict
-    ensures { λ r. ⌜ meant r ≡ judged (placed 0 (rowShapeFaults (lent (now (width .entry)) (now (lock .entry)) (now (mask .entry)) (now (value .entry)) []))) ⌝ }
+    ensures { λ r. ⌜ verdictModel r ≡ judged (placed 0 (rowShapeFaults (lent (now (width .entry)) (now (lock .entry)) (now (mask .entry)) (now (value .entry)) []))) ⌝ }
 {
     let n = width.len();
     if n == 0 {
@@ -65,7 +65,7 @@ pub fn check_shape(width: &[u8], lock: &[u8], mask: &[u32], value: &[u32]) -> Ve
 
 // Check 3, but for the stretch.
 pub fn check_words(words: &[u32]) -> Verdict
-    ensures { λ r. ⌜ meant r ≡ judged (placed 0 (wordFaults (lent [] [] [] [] (now (words .entry))))) ⌝ }
+    ensures { λ r. ⌜ verdictModel r ≡ judged (placed 0 (wordFaults (lent [] [] [] [] (now (words .entry))))) ⌝ }
 {
     if words.len() % RECORD_WORDS != 0 {
         return refuse(3, 0);
@@ -78,7 +78,7 @@ pub fn check_words(words: &[u32]) -> Verdict
 
 // Checks 1 to 3, but for the stretch.
 fn check_head(width: &[u8], lock: &[u8], mask: &[u32], value: &[u32], words: &[u32]) -> Verdict
-    ensures { λ r. ⌜ meant r ≡ judged (headChecks (lent (now (width .entry)) (now (lock .entry)) (now (mask .entry)) (now (value .entry)) (now (words .entry)))) ⌝ }
+    ensures { λ r. ⌜ verdictModel r ≡ judged (headChecks (lent (now (width .entry)) (now (lock .entry)) (now (mask .entry)) (now (value .entry)) (now (words .entry)))) ⌝ }
 {
     let shape = check_shape(width, lock, mask, value);
     match shape {
@@ -100,7 +100,7 @@ fn check_body(
     words: &[u32],
 ) -> Verdict
     requires { ⌜ (length (now width) ≤ 256) × RowSlices (now width) (now lock) (now mask) (now value) ⌝ }
-    ensures { λ r. ⌜ meant r ≡ judged (bodyChecks locked (lent (now (width .entry)) (now (lock .entry)) (now (mask .entry)) (now (value .entry)) (now (words .entry)))) ⌝ }
+    ensures { λ r. ⌜ verdictModel r ≡ judged (bodyChecks locked (lent (now (width .entry)) (now (lock .entry)) (now (mask .entry)) (now (value .entry)) (now (words .entry)))) ⌝ }
 {
     let found = check_rows(width, lock, mask, value);
     match found {
@@ -114,7 +114,7 @@ fn check_body(
 
 // What size refuses.
 pub fn check_table(width: &[u8], lock: &[u8], mask: &[u32], value: &[u32], words: &[u32]) -> Verdict
-    ensures { λ r. ⌜ meant r ≡ judged (sizeChecks (lent (now (width .entry)) (now (lock .entry)) (now (mask .entry)) (now (value .entry)) (now (words .entry)))) ⌝ }
+    ensures { λ r. ⌜ verdictModel r ≡ judged (sizeChecks (lent (now (width .entry)) (now (lock .entry)) (now (mask .entry)) (now (value .entry)) (now (words .entry)))) ⌝ }
 {
     let head = check_head(width, lock, mask, value, words);
     match head {
@@ -128,7 +128,7 @@ pub fn check_table(width: &[u8], lock: &[u8], mask: &[u32], value: &[u32], words
 
 // Check 3, of the stretch.
 fn check_stretch(words: &[u32], first: usize, last: usize) -> Verdict
-    ensures { λ r. ⌜ meant r ≡ judged (placed 0 (stretchFaults (lent [] [] [] [] (now (words .entry))) first last)) ⌝ }
+    ensures { λ r. ⌜ verdictModel r ≡ judged (placed 0 (stretchFaults (lent [] [] [] [] (now (words .entry))) first last)) ⌝ }
 {
     if last < first {
         return refuse(3, 0);
@@ -149,7 +149,7 @@ pub fn check_run(
     first: usize,
     last: usize,
 ) -> Verdict
-    ensures { λ r. ⌜ meant r ≡ judged (runChecks (lent (now (width .entry)) (now (lock .entry)) (now (mask .entry)) (now (value .entry)) (now (words .entry))) first last) ⌝ }
+    ensures { λ r. ⌜ verdictModel r ≡ judged (runChecks (lent (now (width .entry)) (now (lock .entry)) (now (mask .entry)) (now (value .entry)) (now (words .entry))) first last) ⌝ }
 {
     let head = check_head(width, lock, mask, value, words);
     match head {
@@ -170,7 +170,7 @@ pub fn check_run(
 
 // What count refuses.
 pub fn check_count(width: &[u8], lock: &[u8], mask: &[u32], value: &[u32], row: usize) -> Verdict
-    ensures { λ r. ⌜ meant r ≡ judged (countChecks (lent (now (width .entry)) (now (lock .entry)) (now (mask .entry)) (now (value .entry)) []) row) ⌝ }
+    ensures { λ r. ⌜ verdictModel r ≡ judged (countChecks (lent (now (width .entry)) (now (lock .entry)) (now (mask .entry)) (now (value .entry)) []) row) ⌝ }
 {
     let shape = check_shape(width, lock, mask, value);
     match shape {

@@ -3,8 +3,8 @@ ghost use mathlib.Core.Path.{_≡_};
 ghost use mathlib.Core.List.{[]};
 ghost use Rattle.checks.specs.Check.{placed};
 ghost use Rattle.checks.specs.Checks.{rowFaults, rowChecks};
-ghost use Rattle.checks.specs.Meant.{lent, meant, judged};
-ghost use Rattle.checks.specs.Coded.{RowSlices};
+ghost use Rattle.checks.specs.Model.{lent, verdictModel, judged};
+ghost use Rattle.checks.specs.Encoding.{RowSlices};
 use crate::Verdict;
 use crate::limits::WIDTH_LIMIT;
 use crate::refuse;
@@ -18,7 +18,7 @@ pub fn wide(x: u8) -> u32
 
 // The first of checks 4 and 5 that a row fails; i is its place.
 fn check_row(w: u32, l: u8, m: u32, v: u32, i: usize) -> Verdict
-    ensures { λ r. ⌜ meant r ≡ judged (placed i (rowFaults w l m v)) ⌝ }
+    ensures { λ r. ⌜ verdictModel r ≡ judged (placed i (rowFaults w l m v)) ⌝ }
 {
     if w == 0 {
         return refuse(4, i);
@@ -45,7 +45,7 @@ fn check_row(w: u32, l: u8, m: u32, v: u32, i: usize) -> Verdict
 // Rows rising, 4 before 5.
 pub fn check_rows(width: &[u8], lock: &[u8], mask: &[u32], value: &[u32]) -> Verdict
     requires { ⌜ RowSlices (now width) (now lock) (now mask) (now value) ⌝ }
-    ensures { λ r. ⌜ meant r ≡ judged (rowChecks (lent (now (width .entry)) (now (lock .entry)) (now (mask .entry)) (now (value .entry)) [])) ⌝ }
+    ensures { λ r. ⌜ verdictModel r ≡ judged (rowChecks (lent (now (width .entry)) (now (lock .entry)) (now (mask .entry)) (now (value .entry)) [])) ⌝ }
 {
     let mut i: usize = 0;
     while i < width.len() {

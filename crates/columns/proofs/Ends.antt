@@ -7,7 +7,7 @@ use lib.Pow.{pow-pos, pow-mono}
 use lib.Bits.{bitOr}
 use Rattle.bits.specs.Bit.{bit}
 use Rattle.bits.proofs.Constants.{bit-complement, bit-ones, bit-ones-above}
-use Rattle.columns.specs.Settled.{Column, KnownBelow, KnownFrom, AllKnown}
+use Rattle.columns.specs.Settled.{ColumnIs, KnownBelow, KnownFrom, AllKnown}
 use Rattle.columns.proofs.Marked.{marks-or}
 
 -- the ones below an end
@@ -31,5 +31,5 @@ pub known-ends : (ma va mb vb i j m n : ℕ) → m ≡ 2 ^ min i 32 - 1 → n �
     → AllKnown ma va mb vb (bitOr m (2 ^ 32 - 1 - n))
 known-ends ma va mb vb i j m n e f p q w F =
     let o = F .most in
-    marks-or (λ k. Column w ma va mb vb k 0) m (2 ^ 32 - 1 - n) (λ k g h. p w F k (below-end i m k e g) h)
+    marks-or (λ k. ColumnIs w ma va mb vb k 0) m (2 ^ 32 - 1 - n) (λ k g h. p w F k (below-end i m k e g) h)
     (λ k g h. q w F k (from-end j n k f (omega arith) g) h)

@@ -15,7 +15,7 @@ use Rattle.bits.proofs.Shifts.{bit-low, bit-high, bit-div, bit-mod, bit-mod-abo
 use Rattle.bits.proofs.Words.{or-cases}
 use Rattle.vectors.specs.Row.{row, Covers}
 use Rattle.vectors.proofs.Rows.{covers-part, covered-part}
-use Rattle.columns.specs.Settled.{Formed, Column, UnknownExactly}
+use Rattle.columns.specs.Settled.{Formed, ColumnIs, UnknownExactly}
 use Rattle.columns.specs.Choices.{difference, differenceAt}
 use Rattle.columns.proofs.ProductMask.{product-steady}
 use Rattle.columns.proofs.Marked.{difference-clear, differing-unknown}
@@ -98,7 +98,7 @@ unfolding differenceAt difference
 choice-zero p va vb e = ap₂ (λ (x y : ℕ). bitXor p (x * y % 2 ^ 32)) (or-zero-r va) (or-zero-r vb) ∙ ap (bitXor p) (sym e) ∙ xor-self p
 
 module _ (ma va mb vb p found : ℕ) (ha : ma < 2 ^ 32) (e : p ≡ va * vb % 2 ^ 32) (T : Tried p va vb (joined mb ma) found 0) where
-  found-unknown : (k : ℕ) → bit found k ≡ 1 → (w : ℕ) → Formed w ma va mb vb → Column w ma va mb vb k 1
+  found-unknown : (k : ℕ) → bit found k ≡ 1 → (w : ℕ) → Formed w ma va mb vb → ColumnIs w ma va mb vb k 1
   unfolding differenceAt
   found-unknown k f w F =
       let (t, q, d) = T .only k f in

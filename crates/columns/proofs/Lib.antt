@@ -1,4 +1,4 @@
--- The laws of a product's columns.
+-- The laws and proofs of `columns`.
 pub mod ProductMask
 pub mod Marked
 pub mod Untouched
@@ -6,3 +6,5 @@ pub mod Between
 pub mod Ends
 pub mod Parts
 pub mod EveryChoice
+pub mod LowBits
+pub mod Taken

@@ -17,7 +17,7 @@ use Rattle.bits.proofs.Words.{or-cases}
 use Rattle.vectors.specs.Row.{row}
 use Rattle.vectors.proofs.Rows.{covers-value, covers-part}
 use Rattle.vectors.proofs.Joins.{differ-cases}
-use Rattle.columns.specs.Settled.{productOf, Formed, Column, Marks, AllUnknown}
+use Rattle.columns.specs.Settled.{productOf, Formed, ColumnIs, Marks, AllUnknown}
 use Rattle.columns.specs.Choices.{Covered, difference, Witness}
 use Rattle.columns.proofs.ProductMask.{product-varies}
 
@@ -25,7 +25,7 @@ pub marks-or : (P : ℕ → Type 0) (m n : ℕ) → Marks P m → Marks P n → 
 marks-or P m n p q k e = elim (or-cases m n k e) [ inl f ↦ p k f | inr f ↦ q k f ]
 
 pub unknown-or : (ma va mb vb m n : ℕ) → AllUnknown ma va mb vb m → AllUnknown ma va mb vb n → AllUnknown ma va mb vb (bitOr m n)
-unknown-or ma va mb vb m n p q w F = marks-or (λ k. Column w ma va mb vb k 1) m n (p w F) (q w F)
+unknown-or ma va mb vb m n p q w F = marks-or (λ k. ColumnIs w ma va mb vb k 1) m n (p w F) (q w F)
 
 -- ---- covered numbers
 

@@ -39,7 +39,7 @@ module _ (w ma va mb vb : ℕ) where
     unfolding plain opMul
     plain-bit a b = bit-mod (a * b) w k h
 
-    known-bit : bit (productOf w ma va mb vb .mask) k ≡ 0 → (a b : ℕ) → Covers (row w ma va) a → Covers (row w mb vb) b
+    pub known-bit : bit (productOf w ma va mb vb .mask) k ≡ 0 → (a b : ℕ) → Covers (row w ma va) a → Covers (row w mb vb) b
         → bit (a * b) k ≡ bit (productOf w ma va mb vb .value) k
     known-bit e a b ca cb = sym (plain-bit a b) ∙ told .known k h e (a ∷ b ∷ []) (ca, (cb, tt))
 

@@ -16,7 +16,7 @@ use Rattle.columns.specs.Settled.{KnownBelow}
 use Rattle.columns.proofs.ProductMask.{product-steady}
 
 -- a factor that is a multiple of 2 ^ j lifts an agreement of the other factors below 2 ^ i to one below 2 ^ (i + j)
-lifted : (a x b i j : ℕ) → a % 2 ^ i ≡ x % 2 ^ i → b % 2 ^ j ≡ 0 → (a * b) % 2 ^ (i + j) ≡ (x * b) % 2 ^ (i + j)
+pub lifted : (a x b i j : ℕ) → a % 2 ^ i ≡ x % 2 ^ i → b % 2 ^ j ≡ 0 → (a * b) % 2 ^ (i + j) ≡ (x * b) % 2 ^ (i + j)
 lifted a x b i j e f = cut a ∙ ap (λ (r : ℕ). r * (b / 2 ^ j * 2 ^ j) % 2 ^ (i + j)) e ∙ sym (cut x)
   where
     multiple : b ≡ b / 2 ^ j * 2 ^ j

@@ -2,7 +2,7 @@
 -- inner functions alone: what `product_bit` and `mul` promise does not lean on them.
 --   productOf w ma va mb vb        the product's vector at width w
 --   Formed w ma va mb vb           both operands are well-formed vectors of width w, at most 32
---   Column w ma va mb vb k b       if column k is below the width, its mask bit is b: 1 for unknown, 0 for known
+--   ColumnIs w ma va mb vb k b       if column k is below the width, its mask bit is b: 1 for unknown, 0 for known
 --   Marks P n                      every column that is set in n has the property P
 --   AllUnknown ma va mb vb n       every column that is set in n is unknown, whatever the width
 --   AllKnown ma va mb vb n         every column that is set in n is known
@@ -25,23 +25,23 @@ pub record Formed (w ma va mb vb : ℕ) : Type 0 where
   pub first : WellFormed (row w ma va)
   pub second : WellFormed (row w mb vb)
 
-abbrev pub Column : ℕ → ℕ → ℕ → ℕ → ℕ → ℕ → ℕ → Type 0
-Column w ma va mb vb k b = k < w → bit (productOf w ma va mb vb .mask) k ≡ b
+abbrev pub ColumnIs : ℕ → ℕ → ℕ → ℕ → ℕ → ℕ → ℕ → Type 0
+ColumnIs w ma va mb vb k b = k < w → bit (productOf w ma va mb vb .mask) k ≡ b
 
 abbrev pub Marks : (ℕ → Type 0) → ℕ → Type 0
 Marks P n = (k : ℕ) → bit n k ≡ 1 → P k
 
 abbrev pub AllUnknown : ℕ → ℕ → ℕ → ℕ → ℕ → Type 0
-AllUnknown ma va mb vb n = (w : ℕ) → Formed w ma va mb vb → Marks (λ k. Column w ma va mb vb k 1) n
+AllUnknown ma va mb vb n = (w : ℕ) → Formed w ma va mb vb → Marks (λ k. ColumnIs w ma va mb vb k 1) n
 
 abbrev pub AllKnown : ℕ → ℕ → ℕ → ℕ → ℕ → Type 0
-AllKnown ma va mb vb n = (w : ℕ) → Formed w ma va mb vb → Marks (λ k. Column w ma va mb vb k 0) n
+AllKnown ma va mb vb n = (w : ℕ) → Formed w ma va mb vb → Marks (λ k. ColumnIs w ma va mb vb k 0) n
 
 abbrev pub KnownBelow : ℕ → ℕ → ℕ → ℕ → ℕ → Type 0
-KnownBelow ma va mb vb n = (w : ℕ) → Formed w ma va mb vb → (k : ℕ) → k < n → Column w ma va mb vb k 0
+KnownBelow ma va mb vb n = (w : ℕ) → Formed w ma va mb vb → (k : ℕ) → k < n → ColumnIs w ma va mb vb k 0
 
 abbrev pub KnownFrom : ℕ → ℕ → ℕ → ℕ → ℕ → Type 0
-KnownFrom ma va mb vb n = (w : ℕ) → Formed w ma va mb vb → (k : ℕ) → n ≤ k → Column w ma va mb vb k 0
+KnownFrom ma va mb vb n = (w : ℕ) → Formed w ma va mb vb → (k : ℕ) → n ≤ k → ColumnIs w ma va mb vb k 0
 
 abbrev pub UnknownExactly : ℕ → ℕ → ℕ → ℕ → ℕ → Type 0
-UnknownExactly ma va mb vb n = (w : ℕ) → Formed w ma va mb vb → (k : ℕ) → Column w ma va mb vb k (bit n k)
+UnknownExactly ma va mb vb n = (w : ℕ) → Formed w ma va mb vb → (k : ℕ) → ColumnIs w ma va mb vb k (bit n k)

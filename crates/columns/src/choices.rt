@@ -2,7 +2,7 @@
 ghost use mathlib.Core.Path.{_≡_};
 ghost use Rattle.columns.specs.Settled.{UnknownExactly};
 ghost use Rattle.columns.specs.Choices.{differenceAt};
-use crate::WORD;
+use crate::WORD_MODULUS;
 use crate::product;
 use crate::witnesses::differing;
 
@@ -10,7 +10,11 @@ use crate::witnesses::differing;
 fn chosen(plain: u32, va: u32, vb: u32, s: u64) -> u32
     ensures { λ r. ⌜ r ≡ differenceAt plain va vb s ⌝ }
 {
-    differing(plain, va | ((s % WORD) as u32), vb | ((s / WORD) as u32))
+    differing(
+        plain,
+        va | ((s % WORD_MODULUS) as u32),
+        vb | ((s / WORD_MODULUS) as u32),
+    )
 }
 
 // The unknown columns: those in which some choice differs from the plain product. The choices are the parts of the unknown bits, from all of

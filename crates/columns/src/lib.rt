@@ -5,11 +5,12 @@ ghost use Prim.Native.Nat.{_-_, _*_, _%_, _^_, min};
 ghost use Rattle.columns.specs.Settled.{AllKnown};
 
 pub mod choices; // choices.rt: every choice of the unknown bits, where they are few
+pub mod low; // low.rt: the columns that few unknown bits reach
 mod reach; // reach.rt: the columns that no unknown bit reaches
 pub mod witnesses; // witnesses.rt: sixteen choices
 
 // 2^32.
-const WORD: u64 = 4294967296;
+const WORD_MODULUS: u64 = 4294967296;
 
 // a · b, exact.
 pub fn exact_product(a: u32, b: u32) -> u64
@@ -22,11 +23,11 @@ pub fn exact_product(a: u32, b: u32) -> u64
 pub fn product(a: u32, b: u32) -> u32
     ensures { λ r. ⌜ r ≡ a * b % 2 ^ 32 ⌝ }
 {
-    (exact_product(a, b) % WORD) as u32
+    (exact_product(a, b) % WORD_MODULUS) as u32
 }
 
 // The ones below column n: all 32 where n is more.
-fn ones_below(n: u32) -> u32
+pub fn ones_below(n: u32) -> u32
     ensures { λ r. ⌜ r ≡ 2 ^ min n 32 - 1 ⌝ }
 {
     if n >= 32 {

@@ -4,10 +4,10 @@ ghost use Rattle.columns.specs.Settled.{Marks, AllUnknown};
 ghost use Rattle.columns.specs.Choices.{difference, Witness};
 use crate::product;
 
-// Every second bit, and every second pair of bits.
+// Every second bit, and every second pair of bits: with these no column of two wholly unknown words stays open.
 const ALTERNATING: u32 = 0x5555_5555;
 
-const BY_TWOS: u32 = 0x3333_3333;
+const BY_TWOS: u32 = 0x6666_6666;
 
 // The columns in which a times b differs from the plain product.
 pub fn differing(plain: u32, a: u32, b: u32) -> u32

@@ -1,2 +1,2 @@
--- What the contracts of `enumeration` cite.
+-- The definitions of `enumeration`.
 pub mod Sizes

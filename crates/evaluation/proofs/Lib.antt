@@ -1,2 +1,3 @@
+-- The laws and proofs of `evaluation`.
 pub mod Lines
 pub mod Printed

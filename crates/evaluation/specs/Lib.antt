@@ -1,1 +1,2 @@
+-- The definitions of `evaluation`.
 pub mod Evaluate

@@ -1,7 +1,7 @@
 // From a text to what `evaluate` prints (01, "Text").
 ghost use Prim.Native.Nat.{_≤_};
 ghost use lib.ListN.{length};
-ghost use Rattle.checks.specs.Meant.{lent};
+ghost use Rattle.checks.specs.Model.{lent};
 ghost use Rattle.evaluation.specs.Evaluate.{Printed, outputRoom, refusedLine, printedTable, evaluateIn, evaluateOf};
 use checks::limits::RECORD_WORDS;
 use checks::limits::ROW_LIMIT;

@@ -14,7 +14,7 @@ use Rattle.bits.proofs.Bools.{T-left, T-right, T-and, eq→eqb}
 use Rattle.grammar.specs.Lists.{allOf}
 use Rattle.grammar.specs.Print.{joined}
 use Rattle.grammar.specs.Cut.{onto, pieces, before}
-use Rattle.grammar.proofs.Tests.{decide, when-true, when-false, by-cond, ne→neqb, all-append}
+use Rattle.grammar.proofs.Tests.{decide, when-true, when-false, by-cond, ne→neqb, allOf-append}
 
 -- the byte c does not stand in the list
 abbrev pub without : ℕ → List ℕ → Bool
@@ -80,7 +80,7 @@ unfolding joined allOf
 all-joined p c u [] t = tt
 all-joined p c u (f ∷ []) t = T-left (allOf p f) true t
 all-joined p c u (f ∷ g ∷ ps) t =
-    all-append p f (c ∷ joined c (g ∷ ps)) (T-left (allOf p f) (allOf (allOf p) (g ∷ ps)) t)
+    allOf-append p f (c ∷ joined c (g ∷ ps)) (T-left (allOf p f) (allOf (allOf p) (g ∷ ps)) t)
     (T-and (p c) (allOf p (joined c (g ∷ ps))) u (all-joined p c u (g ∷ ps) (T-right (allOf p f) (allOf (allOf p) (g ∷ ps)) t)))
 
 -- ---- the first piece, and the pieces after it

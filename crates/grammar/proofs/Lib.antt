@@ -1,3 +1,4 @@
+-- The laws and proofs of `grammar`.
 pub mod Tests
 pub mod Cuts
 pub mod Parts

@@ -18,7 +18,7 @@ use Rattle.grammar.specs.Lists.{allOf, same}
 use Rattle.grammar.specs.Words.{lockWord, threeLetters, edition1}
 use Rattle.grammar.specs.Print.{decimal, lettersOf, LineRow, Line, rowLine, recordLine, outside, fieldsOf}
 use Rattle.grammar.specs.Line.{isDigit, isNumber, numberOf, isLetter, isVector, vectorOf, isLock, lockOf, isName, numberNamed, lineOf}
-use Rattle.grammar.proofs.Tests.{when-true, all-imp, all-map, undone}
+use Rattle.grammar.proofs.Tests.{when-true, allOf-imp, allOf-map, undone}
 use Rattle.grammar.proofs.Decimals.{number-decimal}
 use Rattle.grammar.proofs.Numbers.{digit-least, decimal-digits, decimal-number}
 use Rattle.grammar.proofs.Letters.{letters-length, letters-letters, mask-back, value-back, by-letter}
@@ -73,7 +73,7 @@ record-trip (k ∷ ns) fits =
     when-true (isName name kinds && eqb (length (map decimal ns)) 4 && allOf isNumber (map decimal ns)) (recordLine (numberNamed name kinds ∷ map numberOf (map decimal ns))) outside
     (T-and (isName name kinds && eqb (length (map decimal ns)) 4) (allOf isNumber (map decimal ns))
     (T-and (isName name kinds) (eqb (length (map decimal ns)) 4) (name-known k (fits .known)) (eq→eqb (length-map ns decimal ∙ omega (arith, fits .count))))
-    (all-map isNumber decimal (λ x. leb x numberLimit) (λ x t. decimal-number x (leb→le x numberLimit t)) ns (fits .small)))
+    (allOf-map isNumber decimal (λ x. leb x numberLimit) (λ x t. decimal-number x (leb→le x numberLimit t)) ns (fits .small)))
     ∙ ap recordLine (ap₂ {C = List ℕ} _∷_ (name-number k (fits .known)) (undone decimal numberOf (λ x. leb x numberLimit) (λ x t. number-decimal x) ns (fits .small)))
   where
     name : List ℕ
@@ -88,13 +88,13 @@ pub fields-clean : (l : Line) → LineFits l → T (allOf clean (fieldsOf l))
 unfolding fieldsOf allOf
 fields-clean (rowLine r) fits =
     T-and (clean (lockWord (r .lock))) (clean vector && true) (lock-is (r .lock) (fits .lock-most) .2)
-    (T-and (clean vector) true (all-imp (isLetter threeLetters) (λ b. ltb 32 b) (by-letter (λ c. T (ltb 32 c)) tt tt tt) vector (letters-letters (r .vector .width) (r .vector .mask) (r .vector .value))) tt)
+    (T-and (clean vector) true (allOf-imp (isLetter threeLetters) (λ b. ltb 32 b) (by-letter (λ c. T (ltb 32 c)) tt tt tt) vector (letters-letters (r .vector .width) (r .vector .mask) (r .vector .value))) tt)
   where
     vector : List ℕ
     vector = lettersOf (r .vector .width) (r .vector .mask) (r .vector .value)
 fields-clean (recordLine words) fits =
     T-and (clean (kindOf (kindWord words) .name)) (allOf clean (map decimal (drop 1 words))) (name-clean (kindWord words) (fits .known))
-    (all-map clean decimal (λ x. leb x numberLimit) (λ x t. all-imp isDigit (λ b. ltb 32 b) digit-clean (decimal x) (decimal-digits x)) (drop 1 words) (fits .small))
+    (allOf-map clean decimal (λ x. leb x numberLimit) (λ x t. allOf-imp isDigit (λ b. ltb 32 b) digit-clean (decimal x) (decimal-digits x)) (drop 1 words) (fits .small))
   where
     digit-clean : (b : ℕ) → T (isDigit b) → T (ltb 32 b)
     digit-clean b t = lt→ltb 32 b (omega (arith, digit-least b t))

@@ -11,9 +11,6 @@ use Prim.Native.Nat.{ℕ}
 use lib.Dec.{T, ltb, eqb, eqb→eq}
 use Rattle.bits.proofs.Bools.{T-left, T-right}
 use Rattle.operations.specs.Kind.{Kind}
-use Rattle.operations.specs.Bitwise.{opCopy, opNot, opAnd, opOr, opXor}
-use Rattle.operations.specs.Moves.{opShl, opLshr, opAshr, opRotl, opExtract, opConcat, opZext, opSext}
-use Rattle.operations.specs.Arithmetic.{opAdd, opSub, opNeg, opMul, opEq, opUlt, opSlt, opIte}
 use Rattle.operations.specs.Kinds.{kinds, numbered, find, isKind, kindOf}
 use Rattle.grammar.specs.Lists.{allOf, same}
 use Rattle.grammar.specs.Line.{isName, numberNamed}
@@ -36,13 +33,13 @@ unfolding isKind kindOf
 kind-passes p u n t = found p n kinds t u
 
 -- the kind that a name finds, with a test that all kinds pass
-pub record Named (p : Kind → Bool) (f : List ℕ) (ks : List Kind) : Type 0 where
+pub record FoundByName (p : Kind → Bool) (f : List ℕ) (ks : List Kind) : Type 0 where
   pub kind : Kind
   pub passes : T (p kind)
   pub name-is : kind .name ≡ f
   pub number-is : kind .number ≡ numberNamed f ks
 
-pub named : (p : Kind → Bool) (f : List ℕ) (ks : List Kind) → T (isName f ks) → T (allOf p ks) → Named p f ks
+pub named : (p : Kind → Bool) (f : List ℕ) (ks : List Kind) → T (isName f ks) → T (allOf p ks) → FoundByName p f ks
 unfolding allOf
 named p f [] t u = absurd t
 named p f (k ∷ ks) t u =
@@ -68,7 +65,7 @@ abbrev wellNamed : Kind → Bool
 wellNamed k = isName (k .name) kinds && eqb (numberNamed (k .name) kinds) (k .number) && same (kindOf (k .number) .name) (k .name) && clean (k .name)
 
 names-right : T (allOf wellNamed kinds)
-unfolding allOf same kinds kindOf opCopy opNot opAnd opOr opXor opShl opLshr opAshr opRotl opExtract opConcat opZext opSext opAdd opSub opNeg opMul opEq opUlt opSlt opIte
+unfolding allOf same kindOf
 names-right = tt
 
 -- the four parts of the test

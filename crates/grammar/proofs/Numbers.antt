@@ -15,7 +15,7 @@ use Rattle.grammar.specs.Limits.{numberLimit}
 use Rattle.grammar.specs.Lists.{allOf}
 use Rattle.grammar.specs.Print.{decimal}
 use Rattle.grammar.specs.Line.{numeral, isDigit, leadingZero, isNumber, numberOf}
-use Rattle.grammar.proofs.Tests.{ne→neqb, neqb→ne, all-append, all-one}
+use Rattle.grammar.proofs.Tests.{ne→neqb, neqb→ne, allOf-append, all-one}
 use Rattle.grammar.proofs.Decimals.{split-ten, decimal-small, decimal-large, by-digits, digitOf, number-decimal, length-pos}
 
 -- ---- digits
@@ -33,7 +33,7 @@ pub decimal-digits : (n : ℕ) → T (allOf isDigit (decimal n))
 decimal-digits =
     by-digits (λ n. T (allOf isDigit (decimal n)))
     (λ n h. subst (λ (l : List ℕ). T (allOf isDigit l)) (sym (decimal-small n h)) (one n h))
-    (λ n h r. subst (λ (l : List ℕ). T (allOf isDigit l)) (sym (decimal-large n h)) (all-append isDigit (decimal (n / 10)) ((48 + n % 10) ∷ []) r (one (n % 10) (omega arith))))
+    (λ n h r. subst (λ (l : List ℕ). T (allOf isDigit l)) (sym (decimal-large n h)) (allOf-append isDigit (decimal (n / 10)) ((48 + n % 10) ∷ []) r (one (n % 10) (omega arith))))
   where
     one : (d : ℕ) → d < 10 → T (allOf isDigit ((48 + d) ∷ []))
     one d h = all-one isDigit (48 + d) (digit-is (48 + d) (omega arith) (omega arith))

@@ -10,7 +10,7 @@ use lib.Dec.{T}
 use lib.ListN.{length, getD, take, drop, length-map, List·getD-map}
 use lib.Seq.{append-snoc}
 use Rattle.vectors.specs.Row.{row}
-use Rattle.vectors.specs.Lists.{Each}
+use Rattle.vectors.specs.Lists.{All}
 use Rattle.operations.specs.Limits.{recordWords}
 use Rattle.checks.specs.Table.{recordCount, recordOf}
 use Rattle.bits.specs.Counted.{listed}
@@ -33,7 +33,7 @@ good-here later n (recordLine ws) ls e = (tt, (true, e))
 good-here later n outside ls e = absurd (omega arith)
 
 -- the lines that were read print as the bytes that they were read from
-lines-back : (ps : List (List ℕ)) (later : Bool) (n : ℕ) → firstBad later (suc n) (linesOf edition1 ps) ≡ 0 → (linesText (linesOf edition1 ps) ≡ joined lf ps) × Each Shaped (linesOf edition1 ps)
+lines-back : (ps : List (List ℕ)) (later : Bool) (n : ℕ) → firstBad later (suc n) (linesOf edition1 ps) ≡ 0 → (linesText (linesOf edition1 ps) ≡ joined lf ps) × All Shaped (linesOf edition1 ps)
 unfolding linesOf linesText lineText joined
 lines-back [] b n e = (refl, tt)
 lines-back ([] ∷ []) b n e = (refl, tt)
@@ -50,7 +50,7 @@ lines-back (p ∷ q ∷ ps) b n e =
 no-row : LineRow
 no-row = record { lock = 0; vector = row 0 0 0 }
 
-module _ (ls : List Line) (good : firstBad false 1 ls ≡ 0) (shaped : Each Shaped ls) where
+module _ (ls : List Line) (good : firstBad false 1 ls ≡ 0) (shaped : All Shaped ls) where
   row-is : (i : ℕ) → lineRow (tableIn ls) i ≡ getD (rowsIn ls) i no-row
   unfolding tableIn no-row
   row-is i =
@@ -93,7 +93,7 @@ module _ (ls : List Line) (good : firstBad false 1 ls ≡ 0) (shaped : Each Shap
   table-lines = ap₂ (λ (x y : List Line). x ++ y) rows-lines records-lines ∙ rows-first 0 ls good
 
 module _ (text : List ℕ) (good : firstBad false 1 (linesIn text) ≡ 0) where
-  shapes : Each Shaped (linesIn text)
+  shapes : All Shaped (linesIn text)
   unfolding linesIn
   shapes = lines-back (pieces lf text) false 0 good .1
 

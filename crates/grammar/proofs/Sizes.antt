@@ -10,9 +10,6 @@ use native.Mathlib.Omega.{arith}
 use lib.Dec.{T, leb, leb→le}
 use lib.ListN.{length, drop, length-append}
 use Rattle.operations.specs.Kind.{Use, asRow, asNumber, unused, Kind}
-use Rattle.operations.specs.Bitwise.{opCopy, opNot, opAnd, opOr, opXor}
-use Rattle.operations.specs.Moves.{opShl, opLshr, opAshr, opRotl, opExtract, opConcat, opZext, opSext}
-use Rattle.operations.specs.Arithmetic.{opAdd, opSub, opNeg, opMul, opEq, opUlt, opSlt, opIte}
 use Rattle.operations.specs.Kinds.{kinds}
 use Rattle.operations.specs.Record.{kindWord, targetWord, firstWord, secondWord, parameterWord, kindIn}
 use Rattle.checks.specs.Limits.{rowBytes, recordBytes}
@@ -76,7 +73,7 @@ abbrev lineFits : Kind → Bool
 lineFits k = leb (longest k) recordBytes
 
 kinds-fit : T (allOf lineFits kinds)
-unfolding allOf kinds opCopy opNot opAnd opOr opXor opShl opLshr opAshr opRotl opExtract opConcat opZext opSext opAdd opSub opNeg opMul opEq opUlt opSlt opIte
+unfolding allOf kinds
 kinds-fit = tt
 
 record-bytes : (t : Table) → TablePassed t → (i : ℕ) → i < recordCount t → length (lineText (recordLine (recordOf t i))) ≤ recordBytes

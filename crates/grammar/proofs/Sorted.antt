@@ -9,7 +9,7 @@ use Prim.Native.Nat.{ℕ, suc, _+_, _*_}
 use native.Mathlib.Omega.{arith}
 use lib.ListN.{length, take, drop, length-append}
 use lib.Seq.{take-at, drop-at}
-use Rattle.vectors.specs.Lists.{Each}
+use Rattle.vectors.specs.Lists.{All}
 use Rattle.operations.specs.Limits.{recordWords}
 use Rattle.bits.specs.Counted.{listed}
 use Rattle.grammar.specs.Print.{LineRow, Line, rowLine, recordLine, outside}
@@ -49,9 +49,9 @@ rows-first n (outside ∷ ls) e = absurd (omega arith)
 -- record lines alone, of one size
 pub record Records (ls : List Line) : Type 0 where
   pub passed : firstBad true 1 ls ≡ 0
-  pub shaped : Each Shaped ls
+  pub shaped : All Shaped ls
 
-pub records-pass : (n : ℕ) (ls : List Line) → firstBad false (suc n) ls ≡ 0 → Each Shaped ls → Records (recordsOf ls)
+pub records-pass : (n : ℕ) (ls : List Line) → firstBad false (suc n) ls ≡ 0 → All Shaped ls → Records (recordsOf ls)
 unfolding firstBad
 records-pass n [] e h = record { passed = refl; shaped = h }
 records-pass n (rowLine r ∷ ls) e h = records-pass (suc n) ls e (h .1)

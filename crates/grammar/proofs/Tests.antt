@@ -1,6 +1,6 @@
 -- Laws of choices, of tests of every element, and of words compared. Assumes nothing.
 --   decide, when-true, when-false, by-cond    a test and a choice by it
---   all-imp .. all-map, undone                tests of every element
+--   allOf-imp .. allOf-map, undone                tests of every element
 --   same→eq, same-self, other-word            words compared
 use mathlib.Core.Path.{_≡_, refl, ap₂, subst}
 use mathlib.Core.Bool.{Bool, true, false, not, cond, _||_}
@@ -55,15 +55,15 @@ neqb→ne m n t e = T-not (eqb m n) t (eq→eqb e)
 -- ---- a test of every element
 
 module _ {A : Type 0} where
-  pub all-imp : (p q : A → Bool) → ((a : A) → T (p a) → T (q a)) → (l : List A) → T (allOf p l) → T (allOf q l)
+  pub allOf-imp : (p q : A → Bool) → ((a : A) → T (p a) → T (q a)) → (l : List A) → T (allOf p l) → T (allOf q l)
   unfolding allOf
-  all-imp p q f [] t = tt
-  all-imp p q f (a ∷ l) t = T-and (q a) (allOf q l) (f a (T-left (p a) (allOf p l) t)) (all-imp p q f l (T-right (p a) (allOf p l) t))
+  allOf-imp p q f [] t = tt
+  allOf-imp p q f (a ∷ l) t = T-and (q a) (allOf q l) (f a (T-left (p a) (allOf p l) t)) (allOf-imp p q f l (T-right (p a) (allOf p l) t))
 
-  pub all-append : (p : A → Bool) (l r : List A) → T (allOf p l) → T (allOf p r) → T (allOf p (l ++ r))
+  pub allOf-append : (p : A → Bool) (l r : List A) → T (allOf p l) → T (allOf p r) → T (allOf p (l ++ r))
   unfolding allOf
-  all-append p [] r t u = u
-  all-append p (a ∷ l) r t u = T-and (p a) (allOf p (l ++ r)) (T-left (p a) (allOf p l) t) (all-append p l r (T-right (p a) (allOf p l) t) u)
+  allOf-append p [] r t u = u
+  allOf-append p (a ∷ l) r t u = T-and (p a) (allOf p (l ++ r)) (T-left (p a) (allOf p l) t) (allOf-append p l r (T-right (p a) (allOf p l) t) u)
 
   pub all-at : (p : A → Bool) (l : List A) (d : A) (i : ℕ) → i < length l → T (allOf p l) → T (p (getD l i d))
   unfolding allOf
@@ -82,10 +82,10 @@ module _ {A : Type 0} where
   pub all-one : (p : A → Bool) (a : A) → T (p a) → T (allOf p (a ∷ []))
   all-one p a t = all-cons p a [] t (all-none p)
 
-pub all-map : {A B : Type 0} (p : B → Bool) (f : A → B) (q : A → Bool) → ((a : A) → T (q a) → T (p (f a))) → (l : List A) → T (allOf q l) → T (allOf p (map f l))
+pub allOf-map : {A B : Type 0} (p : B → Bool) (f : A → B) (q : A → Bool) → ((a : A) → T (q a) → T (p (f a))) → (l : List A) → T (allOf q l) → T (allOf p (map f l))
 unfolding allOf
-all-map p f q g [] t = tt
-all-map p f q g (a ∷ l) t = T-and (p (f a)) (allOf p (map f l)) (g a (T-left (q a) (allOf q l) t)) (all-map p f q g l (T-right (q a) (allOf q l) t))
+allOf-map p f q g [] t = tt
+allOf-map p f q g (a ∷ l) t = T-and (p (f a)) (allOf p (map f l)) (g a (T-left (q a) (allOf q l) t)) (allOf-map p f q g l (T-right (q a) (allOf q l) t))
 
 -- a map that undoes another on what passes a test
 pub undone : {A B : Type 0} (f : A → B) (g : B → A) (p : A → Bool) → ((a : A) → T (p a) → g (f a) ≡ a) → (l : List A) → T (allOf p l) → map g (map f l) ≡ l

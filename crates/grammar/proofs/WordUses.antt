@@ -13,7 +13,7 @@ use lib.Dec.{T, leb, eqb, eqb→eq, nltb→le, le→leb}
 use lib.ListN.{length, drop, length-drop}
 use lib.Seq.{length-take-le}
 use Rattle.bits.proofs.Bools.{T-not-not}
-use Rattle.vectors.specs.Lists.{Each}
+use Rattle.vectors.specs.Lists.{All}
 use Rattle.operations.specs.Limits.{recordWords, parameterLimit}
 use Rattle.operations.specs.Kind.{Use, asRow, asNumber, unused}
 use Rattle.operations.specs.Record.{targetWord, firstWord, secondWord, parameterWord, kindIn, used, rowsNamed, misused}
@@ -37,7 +37,7 @@ pub record WordsFit (n : ℕ) (words : List ℕ) : Type 0 where
   pub second : WordFits (kindIn words .use-b) n (secondWord words)
   pub parameter : WordFits (kindIn words .use-p) n (parameterWord words)
 
-one-fits : (u : Use) (n word : ℕ) (rows : List ℕ) → Each (λ i. i < n) (used u word rows) → T (not (misused u word)) → WordFits u n word × Each (λ i. i < n) rows
+one-fits : (u : Use) (n word : ℕ) (rows : List ℕ) → All (λ i. i < n) (used u word rows) → T (not (misused u word)) → WordFits u n word × All (λ i. i < n) rows
 one-fits asRow n word rows e t = e
 one-fits asNumber n word rows e t = (nltb→le parameterLimit word t, e)
 one-fits unused n word rows e t = (eqb→eq word 0 (T-not-not (eqb word 0) t), e)

@@ -10,7 +10,7 @@ use native.Mathlib.Omega.{arith}
 use lib.Dec.{T, ltb, eqb, ltb→lt}
 use lib.ListN.{length, getD}
 use lib.Seq.{append-snoc}
-use Rattle.vectors.specs.Lists.{Each}
+use Rattle.vectors.specs.Lists.{All}
 use Rattle.operations.specs.Limits.{recordWords}
 use Rattle.checks.specs.Table.{Table, recordCount, recordOf}
 use Rattle.checks.specs.Accepted.{TablePassed}
@@ -21,17 +21,17 @@ use Rattle.grammar.specs.Print.{LineRow, Line, rowLine, recordLine, outs
 use Rattle.grammar.specs.Cut.{pieces}
 use Rattle.grammar.specs.Line.{lineOf}
 use Rattle.grammar.specs.Lines.{linesOf, linesIn, firstBad, rowsIn, wordsIn, tableIn, tableRead}
-use Rattle.grammar.proofs.Tests.{ne→neqb, all-imp}
+use Rattle.grammar.proofs.Tests.{ne→neqb, allOf-imp}
 use Rattle.grammar.proofs.Cuts.{without, pieces-cut, pieces-joined, by-first, all-joined}
 use Rattle.grammar.proofs.Names.{clean}
 use Rattle.grammar.proofs.LineTrips.{LineFits, line-trip, fields-clean}
-use Rattle.grammar.proofs.Listed.{each-append, listed-each, listed-ext, listed-getD, listed-map, bad-none, rows-listed, words-after, words-listed}
+use Rattle.grammar.proofs.Listed.{all-append, listed-all, listed-ext, listed-getD, listed-map, bad-none, rows-listed, words-after, words-listed}
 use Rattle.grammar.proofs.WordUses.{words-length, row-fits, record-fits}
 
 -- ---- lines that fit are read from their text
 
 clean-without : (c : ℕ) → c ≤ 32 → (f : List ℕ) → T (clean f) → T (without c f)
-clean-without c h f t = all-imp (λ b. ltb 32 b) (λ b. not (eqb b c)) (λ b u. ne→neqb b c (λ e. omega (arith, ltb→lt 32 b u))) f t
+clean-without c h f t = allOf-imp (λ b. ltb 32 b) (λ b. not (eqb b c)) (λ b u. ne→neqb b c (λ e. omega (arith, ltb→lt 32 b u))) f t
 
 cut-fields : (l : Line) → LineFits l → T (allOf (without tab) (fieldsOf l)) → pieces tab (joined tab (fieldsOf l)) ≡ fieldsOf l
 unfolding fieldsOf
@@ -40,16 +40,16 @@ cut-fields (recordLine ws) fits t = pieces-joined tab _ _ t
 cut-fields outside fits t = absurd fits
 
 fields-cut : (l : Line) → LineFits l → pieces tab (joined tab (fieldsOf l)) ≡ fieldsOf l
-fields-cut l fits = cut-fields l fits (all-imp clean (without tab) (clean-without tab (omega arith)) (fieldsOf l) (fields-clean l fits))
+fields-cut l fits = cut-fields l fits (allOf-imp clean (without tab) (clean-without tab (omega arith)) (fieldsOf l) (fields-clean l fits))
 
 no-end : (l : Line) → LineFits l → T (without lf (joined tab (fieldsOf l)))
-no-end l fits = all-joined (λ b. not (eqb b lf)) tab tt (fieldsOf l) (all-imp clean (without lf) (clean-without lf (omega arith)) (fieldsOf l) (fields-clean l fits))
+no-end l fits = all-joined (λ b. not (eqb b lf)) tab tt (fieldsOf l) (allOf-imp clean (without lf) (clean-without lf (omega arith)) (fieldsOf l) (fields-clean l fits))
 
 pub next-line : (p : List ℕ) (text : List ℕ) → linesOf edition1 (p ∷ pieces lf text) ≡ lineOf edition1 (pieces tab p) ∷ linesOf edition1 (pieces lf text)
 unfolding linesOf
 next-line p text = by-first (λ (ps : List (List ℕ)). linesOf edition1 (p ∷ ps) ≡ lineOf edition1 (pieces tab p) ∷ linesOf edition1 ps) (λ q qs. refl) lf text
 
-lines-read : (ls : List Line) → Each LineFits ls → linesIn (linesText ls) ≡ ls
+lines-read : (ls : List Line) → All LineFits ls → linesIn (linesText ls) ≡ ls
 unfolding linesIn linesText lineText
 lines-read [] h = unfold linesOf pieces in refl
 lines-read (l ∷ ls) h =
@@ -61,12 +61,12 @@ lines-read (l ∷ ls) h =
 -- ---- a table that passed
 
 module _ (t : Table) (P : TablePassed t) where
-  lines-fit : Each LineFits (tableLines t)
+  lines-fit : All LineFits (tableLines t)
   unfolding tableLines
   lines-fit =
-      each-append LineFits (rowLines t) (recordLines t)
-      (listed-each LineFits (λ i. rowLine (lineRow t i)) 0 (length (t .widths)) (λ j h. row-fits t P j (omega arith)))
-      (listed-each LineFits (λ i. recordLine (recordOf t i)) 0 (recordCount t) (λ j h. record-fits t P j (omega arith)))
+      all-append LineFits (rowLines t) (recordLines t)
+      (listed-all LineFits (λ i. rowLine (lineRow t i)) 0 (length (t .widths)) (λ j h. row-fits t P j (omega arith)))
+      (listed-all LineFits (λ i. recordLine (recordOf t i)) 0 (recordCount t) (λ j h. record-fits t P j (omega arith)))
 
   pub text-lines : linesIn (textOf t) ≡ tableLines t
   unfolding textOf

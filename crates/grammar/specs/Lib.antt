@@ -1,3 +1,4 @@
+-- The definitions of `grammar`.
 pub mod Limits
 pub mod Lists
 pub mod Words

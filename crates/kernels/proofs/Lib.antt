@@ -1,2 +1,3 @@
-pub mod Arms
-pub mod KindArms
+-- The laws and proofs of `kernels`.
+pub mod Dispatch
+pub mod KindDispatch

@@ -5,9 +5,10 @@ use logic::logical;
 use logic::movement;
 use vectors::Vector;
 ghost use mathlib.Core.Path.{_≡_};
-ghost use Prim.Native.Nat.{_≤_, _<_};
+ghost use Prim.Native.Nat.{_≤_};
+ghost use lib.Dec.{T};
 ghost use Rattle.vectors.specs.Row.{row};
-ghost use Rattle.operations.specs.Kinds.{kindOf};
+ghost use Rattle.operations.specs.Kinds.{isKind, kindOf};
 ghost use Rattle.operations.specs.Result.{resultOf, Ready};
 ghost use Rattle.operations.specs.Record.{operands};
 
@@ -26,7 +27,7 @@ pub fn apply(
     vc: u32,
     p: u32,
 ) -> Vector
-    requires { ⌜ (kind < 21) × (wt ≤ 32) × (wa ≤ 32) × Ready (kindOf kind) wt p (operands (kindOf kind) (row wa ma va) (row wb mb vb) (row 1 mc vc)) ⌝ }
+    requires { ⌜ T (isKind kind) × (wt ≤ 32) × (wa ≤ 32) × Ready (kindOf kind) wt p (operands (kindOf kind) (row wa ma va) (row wb mb vb) (row 1 mc vc)) ⌝ }
     ensures { λ r. ⌜ row wt (r .mask) (r .value) ≡ resultOf (kindOf kind) wt p (operands (kindOf kind) (row wa ma va) (row wb mb vb) (row 1 mc vc)) ⌝ }
 {
     match kind {

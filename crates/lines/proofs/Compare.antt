@@ -1,17 +1,21 @@
 -- Words compared byte by byte, and the lock that a word names. Assumes nothing.
 --   other-length, other-byte, all-same   the ways out of the loop
 --   is-locked, is-open, no-lock          the lock of a word
-use mathlib.Core.Path.{_≡_, refl, sym, ap, _∙_}
-use mathlib.Core.Bool.{Bool, true, false, cond, _||_}
+use mathlib.Core.Path.{_≡_, refl, sym, ap, subst, _∙_}
+use mathlib.Core.Bool.{Bool, true, false, _||_}
 use mathlib.Core.List.{List}
 use Prim.Native.Nat.{ℕ, _<_}
+use lib.Dec.{T}
 use lib.ListN.{length, getD}
 use lib.Seq.{ext-getD}
 use Rattle.bits.specs.Bit.{digit}
 use Rattle.grammar.specs.Lists.{same}
 use Rattle.grammar.specs.Words.{openWord, lockedWord}
 use Rattle.grammar.proofs.Tests.{other-word, eq→same}
-use Rattle.lines.specs.Reads.{lockRead}
+use Rattle.grammar.specs.Line.{isLock, lockOf}
+use Rattle.bits.proofs.Bools.{T-inr}
+use Rattle.lines.specs.Reads.{Tells}
+use Rattle.lines.proofs.Telling.{tells, tells-not}
 
 pub other-length : (a b : List ℕ) → (length b ≡ length a → ⊥) → false ≡ same a b
 other-length a b h = sym (other-word a b (λ e. h (ap length (sym e))))
@@ -26,19 +30,26 @@ all-same a b e h = sym (eq→same a b (ext-getD 0 a b e h))
 
 -- by the answers r and s of the two comparisons
 module _ (f : List ℕ) (r : Bool) (er : r ≡ same f lockedWord) where
-  pub is-locked : r ≡ true → 1 ≡ lockRead f
-  unfolding lockRead
-  is-locked t = sym (ap (λ (q : Bool). cond (same f openWord || q) (digit q) 2) (sym er ∙ t) ∙ either (same f openWord))
+  pub is-locked : r ≡ true → Tells (isLock f) (lockOf f) true 1
+  is-locked t = go (same f openWord) (same f lockedWord) (sym t ∙ er)
     where
-      either : (p : Bool) → _≡_ {A = ℕ} (cond (p || true) 1 2) 1
-      either true = refl
-      either false = refl
+      go : (p q : Bool) → true ≡ q → Tells (p || q) (digit q) true 1
+      go p true e = tells (p || true) 1 1 (T-inr p true tt) refl
+      go p false e = absurd (subst T e tt)
 
   module _ (s : Bool) (es : s ≡ same f openWord) where
-    pub is-open : r ≡ false → s ≡ true → 0 ≡ lockRead f
-    unfolding lockRead
-    is-open t u = sym (ap (λ (q : Bool). cond (same f openWord || q) (digit q) 2) (sym er ∙ t) ∙ ap (λ (p : Bool). cond (p || false) 0 2) (sym es ∙ u))
+    pub is-open : r ≡ false → s ≡ true → Tells (isLock f) (lockOf f) true 0
+    is-open t u = go (same f openWord) (same f lockedWord) (sym u ∙ es) (sym t ∙ er)
+      where
+        go : (p q : Bool) → true ≡ p → false ≡ q → Tells (p || q) (digit q) true 0
+        go true false e g = tells true 0 0 tt refl
+        go true true e g = absurd (subst T (sym g) tt)
+        go false q e g = absurd (subst T e tt)
 
-    pub no-lock : r ≡ false → s ≡ false → 2 ≡ lockRead f
-    unfolding lockRead
-    no-lock t u = sym (ap (λ (q : Bool). cond (same f openWord || q) (digit q) 2) (sym er ∙ t) ∙ ap (λ (p : Bool). cond (p || false) 0 2) (sym es ∙ u))
+    pub no-lock : r ≡ false → s ≡ false → Tells (isLock f) (lockOf f) false 0
+    no-lock t u = go (same f openWord) (same f lockedWord) (sym u ∙ es) (sym t ∙ er)
+      where
+        go : (p q : Bool) → false ≡ p → false ≡ q → Tells (p || q) (digit q) false 0
+        go false false e g = tells-not false 0 0 (λ t. t)
+        go true q e g = absurd (subst T (sym e) tt)
+        go false true e g = absurd (subst T (sym g) tt)

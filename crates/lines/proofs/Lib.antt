@@ -1,3 +1,5 @@
+-- The laws and proofs of `lines`.
+pub mod Telling
 pub mod Scans
 pub mod Compare
 pub mod KindNames

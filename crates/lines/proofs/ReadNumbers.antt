@@ -1,38 +1,40 @@
 -- Reading a number: what each way out of the loop has to show. Assumes nothing.
 --   too-short, leading-zero, just-zero, too-low, too-high, too-great   the ways out before the end
 --   So-far, begin, more, done                                          the loop
---   number-is, no-number                                               what a caller learns
 use mathlib.Core.Path.{_≡_, refl, sym, ap, _∙_, subst}
-use mathlib.Core.Bool.{not}
-use mathlib.Core.Logic.{inl, inr}
+use mathlib.Core.Bool.{Bool, true, false, not}
 use mathlib.Core.List.{List, [], _∷_}
 use Prim.Native.Nat.{ℕ, suc, _+_, _-_, _*_, _≤_, _<_}
 use native.Mathlib.Numerals.{add-one}
 use native.Mathlib.Omega.{arith}
-use lib.Dec.{T, not-T}
+use lib.Dec.{T}
 use lib.ListN.{length, getD, take, drop}
 use lib.Seq.{take-suc, drop-cons, take-all, drop-length}
 use Rattle.grammar.specs.Limits.{numberLimit}
 use Rattle.grammar.specs.Lists.{allOf}
 use Rattle.grammar.specs.Line.{numeral, isDigit, leadingZero, isNumber, numberOf}
-use Rattle.grammar.proofs.Tests.{decide, when-true, when-false, ne→neqb, neqb→ne, all-append, all-at, all-one, all-none}
+use Rattle.grammar.proofs.Tests.{ne→neqb, neqb→ne, allOf-append, all-at, all-one, all-none}
 use Rattle.grammar.proofs.Decimals.{digitOf}
 use Rattle.grammar.proofs.Numbers.{digit-is, digit-least, digit-most, Number, number-tests, number-from}
-use Rattle.lines.specs.Reads.{numberRead}
+use Rattle.lines.specs.Reads.{Tells}
+use Rattle.lines.proofs.Telling.{tells, tells-not}
 
 -- ---- no number
 
-none : (f : List ℕ) → (Number f → ⊥) → 1000 ≡ numberRead f
-unfolding numberRead
-none f h = sym (when-false (isNumber f) (numberOf f) 1000 (not-T (isNumber f) (λ t. h (number-tests f t))))
+-- the answer of the code
+abbrev pub Read : List ℕ → Bool → ℕ → Type 0
+Read f good n = Tells (isNumber f) (numberOf f) good n
 
-pub too-short : (f : List ℕ) → length f ≡ 0 → 1000 ≡ numberRead f
+none : (f : List ℕ) → (Number f → ⊥) → Read f false 0
+none f h = tells-not (isNumber f) (numberOf f) 0 (λ t. h (number-tests f t))
+
+pub too-short : (f : List ℕ) → length f ≡ 0 → Read f false 0
 too-short f e = none f (λ n. omega (arith, n .some))
 
-pub too-low : (f : List ℕ) (i b : ℕ) → i < length f → b ≡ getD f i 0 → b < 48 → 1000 ≡ numberRead f
+pub too-low : (f : List ℕ) (i b : ℕ) → i < length f → b ≡ getD f i 0 → b < 48 → Read f false 0
 too-low f i b h e l = none f (λ n. omega (arith, digit-least (getD f i 0) (all-at isDigit f 0 i h (n .all-digits))))
 
-pub too-high : (f : List ℕ) (i b : ℕ) → i < length f → b ≡ getD f i 0 → 57 < b → 1000 ≡ numberRead f
+pub too-high : (f : List ℕ) (i b : ℕ) → i < length f → b ≡ getD f i 0 → 57 < b → Read f false 0
 too-high f i b h e l = none f (λ n. omega (arith, digit-most (getD f i 0) (all-at isDigit f 0 i h (n .all-digits))))
 
 zero-first : (f : List ℕ) → getD f 0 0 ≡ 48 → (length f ≡ 1 → ⊥) → T (not (leadingZero f)) → ⊥
@@ -40,13 +42,13 @@ zero-first [] e l t = omega arith
 zero-first (b ∷ []) e l t = l refl
 zero-first (b ∷ c ∷ f) e l t = neqb→ne b 48 t e
 
-pub leading-zero : (f : List ℕ) → getD f 0 0 ≡ 48 → (length f ≡ 1 → ⊥) → 1000 ≡ numberRead f
+pub leading-zero : (f : List ℕ) → getD f 0 0 ≡ 48 → (length f ≡ 1 → ⊥) → Read f false 0
 leading-zero f e l = none f (λ n. zero-first f e l (n .no-zero))
 
-pub just-zero : (f : List ℕ) → getD f 0 0 ≡ 48 → length f ≡ 1 → 0 ≡ numberRead f
-unfolding numberRead isNumber numberOf numeral allOf
+pub just-zero : (f : List ℕ) → getD f 0 0 ≡ 48 → length f ≡ 1 → Read f true 0
+unfolding isNumber numberOf numeral allOf
 just-zero [] e l = absurd (omega arith)
-just-zero (b ∷ []) e l = sym (ap (λ (x : ℕ). numberRead (x ∷ [])) e)
+just-zero (b ∷ []) e l = subst (λ (x : ℕ). Read (x ∷ []) true 0) (sym e) (tells true 0 0 tt refl)
 just-zero (b ∷ c ∷ f) e l = absurd (omega arith)
 
 -- ---- the loop
@@ -75,14 +77,14 @@ module _ (f : List ℕ) (i n b : ℕ) (h : i < length f) (e : b ≡ getD f i 0) 
       ∙ sym (ap (numeral 10 digitOf n) (drop-cons f i 0 h))
       ∙ s .rest
 
-  pub too-great : numberLimit < n * 10 + (b - 48) → 1000 ≡ numberRead f
+  pub too-great : numberLimit < n * 10 + (b - 48) → Read f false 0
   too-great l = none f (λ q. omega (arith, q .small, next, numeral-least (n * 10 + (b - 48)) (drop (i + 1) f)))
 
   pub more : n * 10 + (b - 48) ≤ numberLimit → So-far f (i + 1) (n * 10 + (b - 48))
   more l =
       record {
         passed = subst (λ (l : List ℕ). T (allOf isDigit l)) (sym (ap (λ (k : ℕ). take k f) (add-one i) ∙ take-suc f i 0 h))
-            (all-append isDigit (take i f) (getD f i 0 ∷ []) (s .passed) (all-one isDigit (getD f i 0) (digit-is (getD f i 0) (omega arith) (omega arith))));
+            (allOf-append isDigit (take i f) (getD f i 0 ∷ []) (s .passed) (all-one isDigit (getD f i 0) (digit-is (getD f i 0) (omega arith) (omega arith))));
         small = l;
         rest = next;
       }
@@ -92,29 +94,16 @@ not-zero [] z = tt
 not-zero (b ∷ []) z = tt
 not-zero (b ∷ c ∷ f) z = ne→neqb b 48 z
 
-pub done : (f : List ℕ) (i n : ℕ) → length f ≤ i → i ≤ length f → (length f ≡ 0 → ⊥) → (getD f 0 0 ≡ 48 → ⊥) → So-far f i n → n ≡ numberRead f
-unfolding numeral numberRead
+pub done : (f : List ℕ) (i n : ℕ) → length f ≤ i → i ≤ length f → (length f ≡ 0 → ⊥) → (getD f 0 0 ≡ 48 → ⊥) → So-far f i n → Read f true n
+unfolding numeral
 done f i n h h′ l z s =
     let e : i ≡ length f = omega arith in
     let is : n ≡ numberOf f = sym (ap (λ (k : ℕ). numeral 10 digitOf n (drop k f)) e ∙ ap (numeral 10 digitOf n) (drop-length f)) ∙ s .rest in
-    is
-    ∙ sym (when-true (isNumber f) (numberOf f) 1000 (number-from f (record {
+    tells (isNumber f) (numberOf f) n
+    (number-from f (record {
       some = omega arith;
       all-digits = subst (λ (x : List ℕ). T (allOf isDigit x)) (take-all i f h) (s .passed);
       no-zero = not-zero f z;
       small = omega (arith, s .small);
-    })))
-
--- ---- what a caller learns
-
-pub number-is : (f : List ℕ) (x : ℕ) → x ≡ numberRead f → x ≤ numberLimit → T (isNumber f) × (x ≡ numberOf f)
-unfolding numberRead
-number-is f x e h =
-    elim (decide (isNumber f)) [
-      | inl t ↦ (t, e ∙ when-true (isNumber f) (numberOf f) 1000 t)
-      | inr t ↦ absurd (omega (arith, e ∙ when-false (isNumber f) (numberOf f) 1000 t))
-    ]
-
-pub no-number : (f : List ℕ) (x : ℕ) → x ≡ numberRead f → numberLimit < x → T (isNumber f) → ⊥
-unfolding numberRead
-no-number f x e h t = omega (arith, e ∙ when-true (isNumber f) (numberOf f) 1000 t, number-tests f t .small)
+    }))
+    is

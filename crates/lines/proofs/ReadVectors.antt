@@ -2,29 +2,28 @@
 --   mask-one .. letter-x               one letter
 --   too-short, too-long, no-letter     the ways out before the end
 --   So-far, begin, more, done          the loop
---   vector-is, no-vector               what a caller learns
 use mathlib.Core.Path.{_≡_, refl, sym, ap, ap₂, _∙_, subst}
 use mathlib.Core.Bool.{Bool, true, false, _||_}
-use mathlib.Core.Logic.{inl, inr}
 use mathlib.Core.List.{List, [], _∷_}
 use Prim.Native.Nat.{ℕ, suc, _+_, _*_, _^_, _≤_, _<_}
 use native.Mathlib.Nat.{pow-suc, pow-le-pow-right, zero-lt-suc}
 use native.Mathlib.Numerals.{add-one}
 use native.Mathlib.Omega.{arith}
-use lib.Dec.{T, eqb, not-T}
+use lib.Dec.{T, eqb}
 use lib.ListN.{length, getD, take, drop}
 use lib.Seq.{take-suc, drop-cons, take-all, drop-length}
 use borrow.Author.Tests.{eq-eqb, ne-eqb}
 use Rattle.bits.specs.Bit.{digit}
 use Rattle.bits.proofs.Bits.{digit-lt}
-use Rattle.vectors.specs.Row.{Row, row}
+use Rattle.vectors.specs.Row.{row}
 use Rattle.checks.specs.Limits.{widthLimit}
 use Rattle.grammar.specs.Lists.{allOf}
 use Rattle.grammar.specs.Words.{letter0, letter1, letterX, threeLetters}
 use Rattle.grammar.specs.Line.{numeral, maskBit, valueBit, isLetter, isVector, vectorOf}
-use Rattle.grammar.proofs.Tests.{decide, when-true, when-false, all-append, all-at, all-one, all-none}
+use Rattle.grammar.proofs.Tests.{allOf-append, all-at, all-one, all-none}
 use Rattle.grammar.proofs.Vectors.{Letters, vector-tests, vector-from}
-use Rattle.lines.specs.Reads.{vectorRead, VectorRead}
+use Rattle.lines.specs.Reads.{Tells}
+use Rattle.lines.proofs.Telling.{tells, tells-not}
 
 -- ---- one letter
 
@@ -61,17 +60,20 @@ letter-x b e₀ e₁ = or-false (eqb b letterX) ∙ sym (ap₂ (λ (s t : Bool).
 
 -- ---- no vector
 
-none : (f : List ℕ) → (Letters f → ⊥) → VectorRead f 0 0 0
-unfolding vectorRead
-none f h = record { is = sym (when-false (isVector threeLetters f) (vectorOf threeLetters f) (row 0 0 0) (not-T (isVector threeLetters f) (λ t. h (vector-tests f t)))) }
+-- the answer of the code
+abbrev pub Read : List ℕ → Bool → ℕ → ℕ → ℕ → Type 0
+Read f good w m v = Tells (isVector threeLetters f) (vectorOf threeLetters f) good (row w m v)
 
-pub too-short : (f : List ℕ) → length f ≡ 0 → VectorRead f 0 0 0
+none : (f : List ℕ) → (Letters f → ⊥) → Read f false 0 0 0
+none f h = tells-not (isVector threeLetters f) (vectorOf threeLetters f) (row 0 0 0) (λ t. h (vector-tests f t))
+
+pub too-short : (f : List ℕ) → length f ≡ 0 → Read f false 0 0 0
 too-short f e = none f (λ v. omega (arith, v .some))
 
-pub too-long : (f : List ℕ) → widthLimit < length f → VectorRead f 0 0 0
+pub too-long : (f : List ℕ) → widthLimit < length f → Read f false 0 0 0
 too-long f e = none f (λ v. omega (arith, v .few))
 
-pub no-letter : (f : List ℕ) (i : ℕ) → i < length f → (r : Bool) → r ≡ isLetter threeLetters (getD f i 0) → r ≡ false → VectorRead f 0 0 0
+pub no-letter : (f : List ℕ) (i : ℕ) → i < length f → (r : Bool) → r ≡ isLetter threeLetters (getD f i 0) → r ≡ false → Read f false 0 0 0
 no-letter f i h r e z = none f (λ v. subst (λ (b : Bool). T b) (sym e ∙ z) (all-at (isLetter threeLetters) f 0 i h (v .letters)))
 
 -- ---- the loop
@@ -109,41 +111,20 @@ module _ (f : List ℕ) (i m v x y : ℕ) (r : Bool) (h : i < length f) (e : r �
   more =
       record {
         passed = subst (λ (l : List ℕ). T (allOf (isLetter threeLetters) l)) (sym (ap (λ (k : ℕ). take k f) (add-one i) ∙ take-suc f i 0 h))
-            (all-append (isLetter threeLetters) (take i f) (getD f i 0 ∷ []) (s .passed) (all-one (isLetter threeLetters) (getD f i 0) (subst (λ (b : Bool). T b) (sym t ∙ e) tt)));
+            (allOf-append (isLetter threeLetters) (take i f) (getD f i 0 ∷ []) (s .passed) (all-one (isLetter threeLetters) (getD f i 0) (subst (λ (b : Bool). T b) (sym t ∙ e) tt)));
         mask-below = below-more i m x (s .mask-below) (mask-lt (getD f i 0) x ex);
         value-below = below-more i v y (s .value-below) (value-lt (getD f i 0) y ey);
         mask-rest = rest (maskBit threeLetters) m x ex (s .mask-rest);
         value-rest = rest (valueBit threeLetters) v y ey (s .value-rest);
       }
 
-pub done : (f : List ℕ) (i m v : ℕ) → length f ≤ i → i ≤ length f → (length f ≡ 0 → ⊥) → length f ≤ widthLimit → So-far f i m v → VectorRead f (length f) m v
-unfolding numeral vectorRead
+pub done : (f : List ℕ) (i m v : ℕ) → length f ≤ i → i ≤ length f → (length f ≡ 0 → ⊥) → length f ≤ widthLimit → So-far f i m v → Read f true (length f) m v
+unfolding numeral
 done f i m v h h′ l u s =
     let e : i ≡ length f = omega arith in
     let nil = ap (λ (k : ℕ). drop k f) e ∙ drop-length f in
     let mask-is = ap (numeral 2 (maskBit threeLetters) m) (sym nil) ∙ s .mask-rest in
     let value-is = ap (numeral 2 (valueBit threeLetters) v) (sym nil) ∙ s .value-rest in
-    record {
-      is = (λ j. row (length f) (mask-is j) (value-is j))
-          ∙ sym (when-true (isVector threeLetters f) (vectorOf threeLetters f) (row 0 0 0) (vector-from f (record {
-            some = omega arith;
-            few = u;
-            letters = subst (λ (x : List ℕ). T (allOf (isLetter threeLetters) x)) (take-all i f h) (s .passed);
-          })));
-    }
-
--- ---- what a caller learns
-
-pub vector-is : (f : List ℕ) (w m v : ℕ) → VectorRead f w m v → (w ≡ 0 → ⊥) → T (isVector threeLetters f) × (row w m v ≡ vectorOf threeLetters f)
-unfolding vectorRead
-vector-is f w m v h z =
-    elim (decide (isVector threeLetters f)) [
-      | inl t ↦ (t, h .is ∙ when-true (isVector threeLetters f) (vectorOf threeLetters f) (row 0 0 0) t)
-      | inr t ↦ absurd (z (ap (λ (x : Row). x .width) (h .is ∙ when-false (isVector threeLetters f) (vectorOf threeLetters f) (row 0 0 0) t)))
-    ]
-
-pub no-vector : (f : List ℕ) (w m v : ℕ) → VectorRead f w m v → w ≡ 0 → T (isVector threeLetters f) → ⊥
-unfolding vectorRead
-no-vector f w m v h z t =
-    let e = ap (λ (x : Row). x .width) (h .is ∙ when-true (isVector threeLetters f) (vectorOf threeLetters f) (row 0 0 0) t) in
-    omega (arith, e, z, vector-tests f t .some)
+    tells (isVector threeLetters f) (vectorOf threeLetters f) (row (length f) m v)
+    (vector-from f (record { some = omega arith; few = u; letters = subst (λ (x : List ℕ). T (allOf (isLetter threeLetters) x)) (take-all i f h) (s .passed) }))
+    (λ j. row (length f) (mask-is j) (value-is j))

@@ -1,3 +1,4 @@
+-- The definitions of `lines`.
 pub mod Reads
-pub mod Meant
+pub mod Model
 pub mod Put

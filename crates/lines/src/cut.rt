@@ -4,7 +4,7 @@ ghost use Prim.Native.Nat.{_+_, _≤_};
 ghost use denote.Ref.{ptr};
 ghost use lib.ListN.{length, drop};
 ghost use Rattle.grammar.specs.Cut.{pieces, before, partEnds, partAt};
-ghost use Rattle.lines.specs.Meant.{lies};
+ghost use Rattle.lines.specs.Model.{lies};
 
 pub const LF: u8 = b'\n';
 

@@ -1,10 +1,13 @@
 // What a field of a line tells: a number, a vector (01, "Text").
 ghost use mathlib.Core.Path.{_≡_};
 ghost use Rattle.grammar.specs.Words.{threeLetters};
-ghost use Rattle.grammar.specs.Line.{isLetter, maskBit, valueBit};
-ghost use Rattle.lines.specs.Reads.{numberRead, VectorRead};
+ghost use Rattle.vectors.specs.Row.{row};
+ghost use Rattle.grammar.specs.Line.{isLetter, maskBit, valueBit, isNumber, numberOf, isVector, vectorOf};
+ghost use Rattle.lines.specs.Reads.{Tells};
 use crate::limits::NUMBER_LIMIT;
 use crate::limits::WIDTH_LIMIT;
+use crate::words::NOT_TOLD;
+use crate::words::Told;
 
 fn wide(b: u8) -> u32
     ensures { λ r. ⌜ r ≡ b ⌝ }
@@ -14,40 +17,43 @@ fn wide(b: u8) -> u32
 
 // ---- numbers
 
-// What stands for a field that is no number.
-const NO_NUMBER: u32 = 1000;
-
 // The number that a field stands for.
-pub fn number(f: &[u8]) -> u32
-    ensures { λ r. ⌜ r ≡ numberRead (now (f .entry)) ⌝ }
+pub fn number(f: &[u8]) -> Told
+    ensures { λ r. ⌜ Tells (isNumber (now (f .entry))) (numberOf (now (f .entry))) (r .good) (r .number) ⌝ }
 {
     let len = f.len();
     if len == 0 {
-        return NO_NUMBER;
+        return NOT_TOLD;
     }
     if f[0] == b'0' {
         if len == 1 {
-            return 0;
+            return Told {
+                good: true,
+                number: 0,
+            };
         }
-        return NO_NUMBER;
+        return NOT_TOLD;
     }
     let mut n: u32 = 0;
     let mut i = 0;
     while i < len {
         let b = wide(f[i]);
         if b < 48 {
-            return NO_NUMBER;
+            return NOT_TOLD;
         }
         if 57 < b {
-            return NO_NUMBER;
+            return NOT_TOLD;
         }
         n = n * 10 + (b - 48);
         if NUMBER_LIMIT < n {
-            return NO_NUMBER;
+            return NOT_TOLD;
         }
         i += 1;
     }
-    n
+    Told {
+        good: true,
+        number: n,
+    }
 }
 
 // ---- letters
@@ -77,13 +83,15 @@ fn value_bit(b: u8) -> u32
 }
 
 pub struct Planes {
+    pub good: bool,
     pub width: u32,
     pub mask: u32,
     pub value: u32,
 }
 
-// What stands for a field that tells no vector.
+// Of a field that tells no vector.
 const NO_VECTOR: Planes = Planes {
+    good: false,
     width: 0,
     mask: 0,
     value: 0,
@@ -91,7 +99,7 @@ const NO_VECTOR: Planes = Planes {
 
 // The vector that a field tells.
 pub fn vector(f: &[u8]) -> Planes
-    ensures { λ r. ⌜ VectorRead (now (f .entry)) (r .width) (r .mask) (r .value) ⌝ }
+    ensures { λ r. ⌜ Tells (isVector threeLetters (now (f .entry))) (vectorOf threeLetters (now (f .entry))) (r .good) (row (r .width) (r .mask) (r .value)) ⌝ }
 {
     let len = f.len();
     if len == 0 {
@@ -113,6 +121,7 @@ pub fn vector(f: &[u8]) -> Planes
         i += 1;
     }
     Planes {
+        good: true,
         width: len as u32,
         mask: m,
         value: v,

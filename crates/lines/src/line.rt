@@ -4,15 +4,12 @@ ghost use mathlib.Core.List.{[], _∷_};
 ghost use Rattle.grammar.specs.Words.{tab, edition1};
 ghost use Rattle.grammar.specs.Cut.{pieces};
 ghost use Rattle.grammar.specs.Line.{rowOf, recordIn, lineOf};
-ghost use Rattle.lines.specs.Meant.{lineMeant};
+ghost use Rattle.lines.specs.Model.{lineModel};
 use crate::cut::TAB;
 use crate::cut::count_parts;
 use crate::cut::part;
 use crate::fields::number;
 use crate::fields::vector;
-use crate::limits::NUMBER_LIMIT;
-use crate::limits::WIDTH_LIMIT;
-use crate::words::KINDS;
 use crate::words::is_word;
 use crate::words::kind_of;
 use crate::words::lock_of;
@@ -26,50 +23,49 @@ pub enum Found {
 
 // `row`, `open` or `locked`, and letters.
 fn row_line(lock: &[u8], letters: &[u8]) -> Found
-    ensures { λ r. ⌜ lineMeant r ≡ rowOf edition1 (now (lock .entry) ∷ now (letters .entry) ∷ []) ⌝ }
+    ensures { λ r. ⌜ lineModel r ≡ rowOf edition1 (now (lock .entry) ∷ now (letters .entry) ∷ []) ⌝ }
 {
     let l = lock_of(lock);
-    if 1 < l {
+    if !l.good {
         return Found::Outside;
     }
     let v = vector(letters);
-    let w = v.width;
-    if w == 0 {
+    if !v.good {
         return Found::Outside;
     }
-    Found::Row(l, w, v.mask, v.value)
+    Found::Row(l.number, v.width, v.mask, v.value)
 }
 
 // `op`, the operation's name, t, a, b, p.
 fn record_line(name: &[u8], t: &[u8], a: &[u8], b: &[u8], p: &[u8]) -> Found
-    ensures { λ r. ⌜ lineMeant r ≡ recordIn edition1 (now (name .entry) ∷ now (t .entry) ∷ now (a .entry) ∷ now (b .entry) ∷ now (p .entry) ∷ []) ⌝ }
+    ensures { λ r. ⌜ lineModel r ≡ recordIn edition1 (now (name .entry) ∷ now (t .entry) ∷ now (a .entry) ∷ now (b .entry) ∷ now (p .entry) ∷ []) ⌝ }
 {
     let k = kind_of(name);
-    if KINDS <= k {
+    if !k.good {
         return Found::Outside;
     }
     let x = number(t);
-    if NUMBER_LIMIT < x {
+    if !x.good {
         return Found::Outside;
     }
     let y = number(a);
-    if NUMBER_LIMIT < y {
+    if !y.good {
         return Found::Outside;
     }
     let z = number(b);
-    if NUMBER_LIMIT < z {
+    if !z.good {
         return Found::Outside;
     }
     let w = number(p);
-    if NUMBER_LIMIT < w {
+    if !w.good {
         return Found::Outside;
     }
-    Found::Record(k as u32, x, y, z, w)
+    Found::Record(k.number, x.number, y.number, z.number, w.number)
 }
 
 // What a line without its LF tells.
 pub fn line(l: &[u8]) -> Found
-    ensures { λ r. ⌜ lineMeant r ≡ lineOf edition1 (pieces tab (now (l .entry))) ⌝ }
+    ensures { λ r. ⌜ lineModel r ≡ lineOf edition1 (pieces tab (now (l .entry))) ⌝ }
 {
     let n = count_parts(l, TAB);
     let head = part(l, 1, TAB);

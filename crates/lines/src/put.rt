@@ -4,14 +4,15 @@ ghost use mathlib.Core.List.{[], _∷_};
 ghost use Prim.Native.Nat.{_≤_, _<_};
 ghost use Rattle.bits.specs.Bit.{bit};
 ghost use Rattle.vectors.specs.Row.{row};
-ghost use Rattle.operations.specs.Kinds.{kindOf};
+ghost use Rattle.operations.specs.Kinds.{isKind, kindOf};
+ghost use lib.Dec.{T};
 ghost use Rattle.grammar.specs.Words.{tab, lockWord};
 ghost use Rattle.grammar.specs.Print.{decimal, letter, lettersOf, rowLine, recordLine, lineText};
 ghost use Rattle.lines.specs.Put.{Holds, Put};
 use crate::cut::LF;
 use crate::cut::TAB;
-use crate::words::name_byte;
-use crate::words::name_len;
+use operations::name_byte;
+use operations::name_len;
 
 fn put_byte(out: &mut [u8], at: usize, b: u8) -> usize
     requires { ⌜ Holds (now out) at (b ∷ []) ⌝ }
@@ -106,7 +107,7 @@ pub fn put_row(out: &mut [u8], at: usize, lock: u8, w: u32, m: u32, v: u32) -> u
 // ---- records
 
 fn put_name(out: &mut [u8], at: usize, k: usize) -> usize
-    requires { ⌜ (k < 21) × Holds (now out) at (kindOf k .name) ⌝ }
+    requires { ⌜ T (isKind k) × Holds (now out) at (kindOf k .name) ⌝ }
     ensures { λ r. ⌜ Put (now (out .entry)) (now (out .exit)) at r (kindOf k .name) ⌝ }
 {
     let len = name_len(k);
@@ -139,7 +140,7 @@ pub fn put_record(
     b: usize,
     p: usize,
 ) -> usize
-    requires { ⌜ (kind < 21) × Holds (now out) at (lineText (recordLine (kind ∷ t ∷ a ∷ b ∷ p ∷ []))) ⌝ }
+    requires { ⌜ T (isKind kind) × Holds (now out) at (lineText (recordLine (kind ∷ t ∷ a ∷ b ∷ p ∷ []))) ⌝ }
     ensures { λ r. ⌜ Put (now (out .entry)) (now (out .exit)) at r (lineText (recordLine (kind ∷ t ∷ a ∷ b ∷ p ∷ []))) ⌝ }
 {
     let x = put_word(out, at, b"op\t");

@@ -1,10 +1,13 @@
 // Words of a line compared: locks and the names of the operations (01, "Text").
 ghost use mathlib.Core.Path.{_≡_};
-ghost use Prim.Native.Nat.{_<_};
-ghost use lib.ListN.{length, getD};
-ghost use Rattle.operations.specs.Kinds.{kindOf};
+ghost use lib.Dec.{T};
+ghost use Rattle.operations.specs.Kinds.{kinds, isKind, kindOf};
 ghost use Rattle.grammar.specs.Lists.{same};
-ghost use Rattle.lines.specs.Reads.{lockRead, kindRead};
+ghost use Rattle.grammar.specs.Line.{isLock, lockOf, isName, numberNamed};
+ghost use Rattle.lines.specs.Reads.{Tells};
+use operations::KINDS;
+use operations::name_byte;
+use operations::name_len;
 
 // Does a field hold the word `w`?
 pub fn is_word(f: &[u8], w: &[u8]) -> bool
@@ -24,66 +27,39 @@ pub fn is_word(f: &[u8], w: &[u8]) -> bool
     true
 }
 
-// The lock that a field names: 0, 1, or 2 for none.
-pub fn lock_of(f: &[u8]) -> u32
-    ensures { λ r. ⌜ r ≡ lockRead (now (f .entry)) ⌝ }
+// What a field tells, where `good`.
+pub struct Told {
+    pub good: bool,
+    pub number: u32,
+}
+
+pub const NOT_TOLD: Told = Told {
+    good: false,
+    number: 0,
+};
+
+// The lock that a field names.
+pub fn lock_of(f: &[u8]) -> Told
+    ensures { λ r. ⌜ Tells (isLock (now (f .entry))) (lockOf (now (f .entry))) (r .good) (r .number) ⌝ }
 {
     if is_word(f, b"locked") {
-        return 1;
+        return Told {
+            good: true,
+            number: 1,
+        };
     }
     if is_word(f, b"open") {
-        return 0;
+        return Told {
+            good: true,
+            number: 0,
+        };
     }
-    2
-}
-
-pub const KINDS: usize = 21;
-
-// The operations' names, by kind, eight bytes to each.
-const NAMES: [u8; 168] =
-    *b"copy    not     and     or      xor     shl     lshr    ashr    rotl    extract concat  zext    sext    add     sub     neg     mul     eq      ult     slt     ite     ";
-
-const LENGTHS: [usize; 21] = [
-    4,
-    3,
-    3,
-    2,
-    3,
-    3,
-    4,
-    4,
-    4,
-    7,
-    6,
-    4,
-    4,
-    3,
-    3,
-    3,
-    3,
-    2,
-    3,
-    3,
-    3,
-];
-
-pub fn name_byte(k: usize, i: usize) -> u8
-    requires { ⌜ (k < 21) × (i < length (kindOf k .name)) ⌝ }
-    ensures { λ r. ⌜ r ≡ getD (kindOf k .name) i 0 ⌝ }
-{
-    NAMES[k * 8 + i]
-}
-
-pub fn name_len(k: usize) -> usize
-    requires { ⌜ k < 21 ⌝ }
-    ensures { λ r. ⌜ r ≡ length (kindOf k .name) ⌝ }
-{
-    LENGTHS[k]
+    NOT_TOLD
 }
 
 // Does a field hold the name of kind `k`?
 fn is_name(f: &[u8], k: usize) -> bool
-    requires { ⌜ k < 21 ⌝ }
+    requires { ⌜ T (isKind k) ⌝ }
     ensures { λ r. ⌜ r ≡ same (now (f .entry)) (kindOf k .name) ⌝ }
 {
     let len = f.len();
@@ -100,16 +76,19 @@ fn is_name(f: &[u8], k: usize) -> bool
     true
 }
 
-// The kind that a field names, or 21 for none.
-pub fn kind_of(f: &[u8]) -> usize
-    ensures { λ r. ⌜ r ≡ kindRead (now (f .entry)) ⌝ }
+// The kind that a field names.
+pub fn kind_of(f: &[u8]) -> Told
+    ensures { λ r. ⌜ Tells (isName (now (f .entry)) kinds) (numberNamed (now (f .entry)) kinds) (r .good) (r .number) ⌝ }
 {
-    let mut k = 0;
+    let mut k: u32 = 0;
     while k < KINDS {
-        if is_name(f, k) {
-            return k;
+        if is_name(f, k as usize) {
+            return Told {
+                good: true,
+                number: k,
+            };
         }
         k += 1;
     }
-    k
+    NOT_TOLD
 }

@@ -14,11 +14,11 @@ use lib.Arith.{lt-one}
 use lib.ListN.{getD, List·getD-map}
 use Rattle.bits.specs.Bit.{bit}
 use Rattle.bits.proofs.Bits.{bit-lt, bit-cases, bit-zero, bit-above, bit-of-zero}
-use Rattle.vectors.specs.Lists.{Each}
+use Rattle.vectors.specs.Lists.{All}
 use Rattle.vectors.specs.Row.{Row, row, WellFormed, Covers}
 use Rattle.vectors.specs.Choice.{Chosen}
 use Rattle.vectors.specs.Best.{best}
-use Rattle.vectors.proofs.Rows.{pick}
+use Rattle.vectors.proofs.Rows.{covered-bit}
 use Rattle.vectors.proofs.Bests.{Gives, ByBits, best-by-bits, best-from-bits}
 
 abbrev pub bitsAt : ℕ → List ℕ → List ℕ
@@ -50,41 +50,41 @@ covers-bit k r n h c =
       agrees = λ j l e. bit-bit n k j l ∙ c .agrees k h (sym (bit-bit (r .mask) k j l) ∙ e) ∙ sym (bit-bit (r .value) k j l);
     }
 
-chosen-bits : (w k : ℕ) → k < w → (rows : List Row) → Each (λ r. r .width ≡ w) rows → (ns : List ℕ) → Chosen rows ns → Chosen (rowsAt k rows) (bitsAt k ns)
+chosen-bits : (w k : ℕ) → k < w → (rows : List Row) → All (λ r. r .width ≡ w) rows → (ns : List ℕ) → Chosen rows ns → Chosen (rowsAt k rows) (bitsAt k ns)
 chosen-bits w k h [] e [] c = tt
 chosen-bits w k h [] e (n ∷ ns) c = absurd c
 chosen-bits w k h (r ∷ rs) e [] c = absurd c
 chosen-bits w k h (r ∷ rs) e (n ∷ ns) c = (covers-bit k r n (rw (e .0) h) (c .0), chosen-bits w k h rs (e .1) ns (c .1))
 
-pick-bit : (k : ℕ) (r : Row) (b : ℕ) → WellFormed r → Covers (bitOf k r) b → (n : ℕ) × Covers r n × (bit n k ≡ b)
-pick-bit k r b F c =
+covered-at : (k : ℕ) (r : Row) (b : ℕ) → WellFormed r → Covers (bitOf k r) b → (n : ℕ) × Covers r n × (bit n k ≡ b)
+covered-at k r b F c =
     elim (bit-cases (r .mask) k) [
-      | inr e ↦ pick r F k b (c .below) (inl e)
+      | inr e ↦ covered-bit r F k b (c .below) (inl e)
       | inl e ↦
           let l : 0 < 1 = omega arith in
-          pick r F k b (c .below) (inr (sym (bit-bit (r .value) k 0 l) ∙ sym (c .agrees 0 l (bit-bit (r .mask) k 0 l ∙ e)) ∙ bit-one b (c .below) 0 l))
+          covered-bit r F k b (c .below) (inr (sym (bit-bit (r .value) k 0 l) ∙ sym (c .agrees 0 l (bit-bit (r .mask) k 0 l ∙ e)) ∙ bit-one b (c .below) 0 l))
     ]
 
-pick-bits : (k : ℕ) (rows : List Row) (bs : List ℕ) → Each WellFormed rows → Chosen (rowsAt k rows) bs → (ns : List ℕ) × Chosen rows ns × (bitsAt k ns ≡ bs)
-pick-bits k [] [] F c = ([], tt, refl)
-pick-bits k [] (b ∷ bs) F c = absurd c
-pick-bits k (r ∷ rs) [] F c = absurd c
-pick-bits k (r ∷ rs) (b ∷ bs) F c =
-    let (n, d, e) = pick-bit k r b (F .0) (c .0) in
-    let (ns, ds, es) = pick-bits k rs bs (F .1) (c .1) in
+covered-at-all : (k : ℕ) (rows : List Row) (bs : List ℕ) → All WellFormed rows → Chosen (rowsAt k rows) bs → (ns : List ℕ) × Chosen rows ns × (bitsAt k ns ≡ bs)
+covered-at-all k [] [] F c = ([], tt, refl)
+covered-at-all k [] (b ∷ bs) F c = absurd c
+covered-at-all k (r ∷ rs) [] F c = absurd c
+covered-at-all k (r ∷ rs) (b ∷ bs) F c =
+    let (n, d, e) = covered-at k r b (F .0) (c .0) in
+    let (ns, ds, es) = covered-at-all k rs bs (F .1) (c .1) in
     (n ∷ ns, (d, ds), ap₂ _∷_ e es)
 
 -- ---- the law
 
 pub record Bitwise (w : ℕ) (f : List ℕ → ℕ) (F : List ℕ → ℕ) (rows : List Row) (r : Row) : Type 0 where
   pub width-is : r .width ≡ w
-  pub widths : Each (λ q. q .width ≡ w) rows
+  pub widths : All (λ q. q .width ≡ w) rows
   pub mask-below : r .mask < 2 ^ w
   pub value-below : r .value < 2 ^ w
   pub plain : (k : ℕ) → k < w → (ns : List ℕ) → Chosen rows ns → bit (f ns) k ≡ F (bitsAt k ns)
   pub each-bit : (k : ℕ) → k < w → bitOf k r ≡ best 1 F (rowsAt k rows)
 
-pub bitwise-best : (w : ℕ) (f F : List ℕ → ℕ) (rows : List Row) (r : Row) → Each WellFormed rows → Bitwise w f F rows r → r ≡ best w f rows
+pub bitwise-best : (w : ℕ) (f F : List ℕ → ℕ) (rows : List Row) (r : Row) → All WellFormed rows → Bitwise w f F rows r → r ≡ best w f rows
 bitwise-best w f F rows r W B =
     best-from-bits W (record {
       width-is = B .width-is;
@@ -107,7 +107,7 @@ bitwise-best w f F rows r W B =
 
     given : (k : ℕ) → k < w → (b : ℕ) → Gives F (rowsAt k rows) 0 b → Gives f rows k b
     given k h b g =
-        let (ns, c, e) = pick-bits k rows (g .numbers) W (g .chosen) in
+        let (ns, c, e) = covered-at-all k rows (g .numbers) W (g .chosen) in
         record { numbers = ns; chosen = c; gives = sym (plain-bit k h ns c) ∙ ap (λ (bs : List ℕ). bit (F bs) 0) e ∙ g .gives }
 
     apart : (k : ℕ) → bit (r .mask) k ≡ 1 → bit (r .value) k ≡ 0

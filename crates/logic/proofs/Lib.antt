@@ -1,5 +1,4 @@
--- The laws of the kernels, and the proofs of the functions of `logic`.
--- What several kernels share
+-- The laws and proofs of `logic`.
 pub mod Operands
 pub mod Readies
 -- Bit by bit: not, and, or, xor

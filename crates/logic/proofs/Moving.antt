@@ -9,14 +9,15 @@ use Prim.Native.Nat.{ℕ, zero, suc, _^_, _<_}
 use native.Mathlib.Decide.{decLt}
 use native.Mathlib.Omega.{arith}
 use lib.ListN.{getD, List·getD-map}
+use lib.Pow.{pow-pos}
 use Rattle.bits.specs.Bit.{bit}
 use Rattle.bits.proofs.Bits.{bit-above}
-use Rattle.vectors.specs.Lists.{Each}
+use Rattle.vectors.specs.Lists.{All}
 use Rattle.vectors.specs.Row.{Row, row, WellFormed}
 use Rattle.vectors.specs.Choice.{Chosen}
 use Rattle.vectors.specs.Best.{best}
-use Rattle.vectors.proofs.Lists.{along-map}
-use Rattle.vectors.proofs.Rows.{pick}
+use Rattle.vectors.proofs.Lists.{pointwise-map}
+use Rattle.vectors.proofs.Rows.{covered-bit}
 use Rattle.vectors.proofs.Bests.{Gives, best-from-bits}
 use Rattle.operations.specs.Kind.{Kind}
 use Rattle.operations.specs.Kinds.{kinds, opNone}
@@ -35,7 +36,7 @@ Moved f ws k = ((ns : List ℕ) → Below ws ns → bit (f ns) k ≡ 0) ⊎ From
 
 -- ---- the law
 
-module _ (wt : ℕ) (f : List ℕ → ℕ) (rows : List Row) (W : Each WellFormed rows) (L : (ns : List ℕ) → Below (widthsOf rows) ns → f ns < 2 ^ wt)
+module _ (wt : ℕ) (f : List ℕ → ℕ) (rows : List Row) (W : All WellFormed rows) (L : (ns : List ℕ) → Below (widthsOf rows) ns → f ns < 2 ^ wt)
     (M : (k : ℕ) → k < wt → Moved f (widthsOf rows) k) where
   masks : List ℕ
   masks = map (λ r. r .mask) rows
@@ -45,11 +46,11 @@ module _ (wt : ℕ) (f : List ℕ → ℕ) (rows : List Row) (W : Each WellForme
 
   masks-below : Below (widthsOf rows) masks
   unfolding masks
-  masks-below = along-map (λ w n. n < 2 ^ w) (λ r. r .width) (λ r. r .mask) (λ r F. F .mask-below) rows W
+  masks-below = pointwise-map (λ w n. n < 2 ^ w) (λ r. r .width) (λ r. r .mask) (λ r F. F .mask-below) rows W
 
   values-below : Below (widthsOf rows) values
   unfolding values
-  values-below = along-map (λ w n. n < 2 ^ w) (λ r. r .width) (λ r. r .value) (λ r F. F .value-below) rows W
+  values-below = pointwise-map (λ w n. n < 2 ^ w) (λ r. r .width) (λ r. r .value) (λ r F. F .value-below) rows W
 
   mask-from : (k : ℕ) (m : From f (widthsOf rows) k) → bit (f masks) k ≡ bit (getD rows (m .operand) noRow .mask) (m .place)
   unfolding masks
@@ -61,7 +62,7 @@ module _ (wt : ℕ) (f : List ℕ → ℕ) (rows : List Row) (W : Each WellForme
 
   gives : (k b : ℕ) → b < 2 → bit (f masks) k ≡ 1 → From f (widthsOf rows) k → Gives f rows k b
   gives k b h e m =
-      let (n, c, z) = pick (getD rows (m .operand) noRow) (formed-at rows W (m .operand)) (m .place) b h (inl (sym (mask-from k m) ∙ e)) in
+      let (n, c, z) = covered-bit (getD rows (m .operand) noRow) (formed-at rows W (m .operand)) (m .place) b h (inl (sym (mask-from k m) ∙ e)) in
       let (ns, d, y) = choose-at rows W (m .operand) n c in
       record { numbers = ns; chosen = d; gives = m .moves ns (below-chosen rows ns d) ∙ ap (λ (x : ℕ). bit x (m .place)) y ∙ z }
 
@@ -104,8 +105,8 @@ module _ (wt : ℕ) (f : List ℕ → ℕ) (rows : List Row) (W : Each WellForme
 
 -- ---- for a kind: both planes of the result are its plain number on the operands' planes
 
-bounded-in : (ks : List Kind) → Each Bounded ks → (n : ℕ) → Bounded (getD ks n opNone)
-bounded-in [] B n = λ wt p ws ns t b. absurd t
+bounded-in : (ks : List Kind) → All Bounded ks → (n : ℕ) → Bounded (getD ks n opNone)
+bounded-in [] B n = λ wt p ws ns t c. pow-pos wt
 bounded-in (k ∷ ks) B zero = B .0
 bounded-in (k ∷ ks) B (suc n) = bounded-in ks (B .1) n
 

@@ -10,7 +10,7 @@ use native.Mathlib.Omega.{arith}
 use lib.Arith.{lt-one}
 use lib.ListN.{getD}
 use Rattle.bits.proofs.Bits.{bit-of-zero}
-use Rattle.vectors.specs.Lists.{Each}
+use Rattle.vectors.specs.Lists.{All}
 use Rattle.vectors.specs.Row.{Row, row, WellFormed, Covers}
 use Rattle.vectors.specs.Choice.{Chosen}
 use Rattle.vectors.proofs.Rows.{covers-value}
@@ -20,7 +20,7 @@ use Rattle.operations.specs.Result.{Below, widthsOf}
 abbrev pub noRow : Row
 noRow = row 0 0 0
 
-pub formed-at : (rows : List Row) → Each WellFormed rows → (i : ℕ) → WellFormed (getD rows i noRow)
+pub formed-at : (rows : List Row) → All WellFormed rows → (i : ℕ) → WellFormed (getD rows i noRow)
 formed-at [] F i = record { mask-below = omega arith; value-below = omega arith; apart = λ k e. bit-of-zero k }
 formed-at (r ∷ rs) F zero = F .0
 formed-at (r ∷ rs) F (suc i) = formed-at rs (F .1) i
@@ -32,7 +32,7 @@ chosen-at (r ∷ rs) [] c i = absurd c
 chosen-at (r ∷ rs) (n ∷ ns) c zero = c .0
 chosen-at (r ∷ rs) (n ∷ ns) c (suc i) = chosen-at rs ns (c .1) i
 
-pub choose-at : (rows : List Row) → Each WellFormed rows → (i n : ℕ) → Covers (getD rows i noRow) n → (ns : List ℕ) × Chosen rows ns × (getD ns i 0 ≡ n)
+pub choose-at : (rows : List Row) → All WellFormed rows → (i n : ℕ) → Covers (getD rows i noRow) n → (ns : List ℕ) × Chosen rows ns × (getD ns i 0 ≡ n)
 choose-at [] F i n c = ([], tt, sym (lt-one (c .below)))
 choose-at (r ∷ rs) F zero n c = let (ns, d) = some-chosen rs (F .1) in (n ∷ ns, (c, d), refl)
 choose-at (r ∷ rs) F (suc i) n c = let (ns, d, e) = choose-at rs (F .1) i n c in (r .value ∷ ns, (covers-value r (F .0), d), e)

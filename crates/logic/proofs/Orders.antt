@@ -1,5 +1,5 @@
 -- The law of kernels that compare two operands by an order, over the key by which they are ordered. Assumes nothing.
---   Extremes key r least greatest   the least and the greatest key of the numbers that r covers
+--   KeyExtremes key r least greatest   the least and the greatest key of the numbers that r covers
 --   less key                        the test: the first number's key is below the second's
 use mathlib.Core.Path.{_≡_, refl}
 use mathlib.Core.Bool.{Bool, not}
@@ -22,7 +22,7 @@ pub record Reached (key : ℕ → ℕ) (r : Row) (x : ℕ) : Type 0 where
   pub covered : Covers r member
   pub key-is : key member ≡ x
 
-pub record Extremes (key : ℕ → ℕ) (r : Row) (least greatest : ℕ) : Type 0 where
+pub record KeyExtremes (key : ℕ → ℕ) (r : Row) (least greatest : ℕ) : Type 0 where
   pub low : Reached key r least
   pub high : Reached key r greatest
   pub from : (n : ℕ) → Covers r n → least ≤ key n
@@ -32,7 +32,7 @@ abbrev pub less : (ℕ → ℕ) → List ℕ → Bool
 less key ns = ltb (key (getD ns 0 0)) (key (getD ns 1 0))
 
 -- known as 1 if the greatest of a is below the least of b, as 0 if the least of a is at least the greatest of b, else X
-pub orders-best : (key : ℕ → ℕ) (a b : Row) (la ha lb hb m v : ℕ) → WellFormed a → WellFormed b → Extremes key a la ha → Extremes key b lb hb
+pub orders-best : (key : ℕ → ℕ) (a b : Row) (la ha lb hb m v : ℕ) → WellFormed a → WellFormed b → KeyExtremes key a la ha → KeyExtremes key b lb hb
     → Tested (leb lb ha) (ltb la hb) m v → row 1 m v ≡ best 1 (λ ns. digit (less key ns)) (a ∷ b ∷ [])
 orders-best key a b la ha lb hb m v A B E F = tests-best (less key) (a ∷ b ∷ []) (leb lb ha) (ltb la hb) m v (A, (B, tt)) fails holds
   where
@@ -68,7 +68,7 @@ orders-best key a b la ha lb hb m v A B E F = tests-best (less key) (a ∷ b ∷
 
 -- ---- the unsigned order
 
-pub unsigned : (r : Row) → WellFormed r → Extremes (λ n. n) r (r .value) (top r)
+pub unsigned : (r : Row) → WellFormed r → KeyExtremes (λ n. n) r (r .value) (top r)
 unsigned r F =
     record {
       low = record { member = r .value; covered = covers-value r F; key-is = refl };

@@ -13,7 +13,7 @@ use Rattle.bits.specs.Bit.{bit}
 use Rattle.bits.proofs.Bits.{bit-lt, bit-above, bit-xor, bit-ext}
 use Rattle.vectors.specs.Row.{row, WellFormed, Covers}
 use Rattle.bits.proofs.Words.{bit-clear}
-use Rattle.logic.proofs.Orders.{Reached, Extremes, unsigned}
+use Rattle.logic.proofs.Orders.{Reached, KeyExtremes, unsigned}
 
 unfoldable pub flip : ℕ → ℕ → ℕ
 flip w n = bitXor n (2 ^ (w - 1))
@@ -99,7 +99,7 @@ module _ (w n m v : ℕ) (h : 1 ≤ w) (i : w ≤ n) (F : WellFormed (row w m v)
         key-is = flip-twice w (R .member) h (R .covered .below) ∙ R .key-is;
       }
 
-  pub signed : Extremes (flip w) (row w m v) (flipped w n m v) (bitOr (flipped w n m v) m)
+  pub signed : KeyExtremes (flip w) (row w m v) (flipped w n m v) (bitOr (flipped w n m v) m)
   signed =
       let E = unsigned (row w m (flipped w n m v)) keys-formed in
       record {

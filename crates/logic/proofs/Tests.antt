@@ -10,7 +10,7 @@ use lib.Dec.{T, not-T, T-not}
 use Rattle.bits.specs.Bit.{bit, digit}
 use Rattle.bits.proofs.Bools.{T-not-not}
 use Rattle.bits.proofs.Bits.{bit-of-zero, digit-lt}
-use Rattle.vectors.specs.Lists.{Each}
+use Rattle.vectors.specs.Lists.{All}
 use Rattle.vectors.specs.Row.{Row, row, WellFormed}
 use Rattle.vectors.specs.Choice.{Chosen}
 use Rattle.vectors.specs.Best.{best}
@@ -38,7 +38,7 @@ bit-digit : (b : Bool) (k : ℕ) → k < 1 → bit (digit b) k ≡ digit b
 bit-digit b k h = bit-one (digit b) (digit-lt b) k h
 
 -- 0 where the test cannot hold, 1 where it cannot fail, else X
-tests-row : (test : List ℕ → Bool) (rows : List Row) (fails holds : Bool) → Each WellFormed rows
+tests-row : (test : List ℕ → Bool) (rows : List Row) (fails holds : Bool) → All WellFormed rows
     → Tells rows (λ ns. not (test ns)) fails → Tells rows test holds
     → row 1 (digit (fails && holds)) (digit (holds && not fails)) ≡ best 1 (λ ns. digit (test ns)) rows
 tests-row test rows true true W Z O =
@@ -61,7 +61,7 @@ tests-row test rows false false W Z O =
     let (ns, c) = some-chosen rows W in
     absurd (T-not (test ns) (not-T (test ns) (O .every ns c)) (T-not-not (test ns) (not-T (not (test ns)) (Z .every ns c))))
 
-pub tests-best : (test : List ℕ → Bool) (rows : List Row) (fails holds : Bool) (m v : ℕ) → Each WellFormed rows
+pub tests-best : (test : List ℕ → Bool) (rows : List Row) (fails holds : Bool) (m v : ℕ) → All WellFormed rows
     → Tells rows (λ ns. not (test ns)) fails → Tells rows test holds → Tested fails holds m v → row 1 m v ≡ best 1 (λ ns. digit (test ns)) rows
 tests-best test rows fails holds m v W Z O t = ap₂ (row 1) (t .0) (t .1) ∙ tests-row test rows fails holds W Z O
 

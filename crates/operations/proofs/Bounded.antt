@@ -14,8 +14,8 @@ use lib.Arith.{digits-lt}
 use Rattle.bits.specs.Bit.{bit, digit}
 use Rattle.bits.proofs.Bits.{digit-lt, number-below}
 use Rattle.bits.proofs.Bools.{T-left, T-right}
-use Rattle.vectors.specs.Lists.{Each}
-use Rattle.operations.specs.Kind.{Kind, first, second, third}
+use Rattle.vectors.specs.Lists.{All}
+use Rattle.operations.specs.Kind.{asks, Kind, first, second, third}
 use Rattle.operations.specs.Bitwise.{opCopy, opNot, opAnd, opOr, opXor}
 use Rattle.operations.specs.Moves.{opShl, opLshr, opAshr, opRotl, opExtract, opConcat, opZext, opSext}
 use Rattle.operations.specs.Arithmetic.{opAdd, opSub, opNeg, opMul, opEq, opUlt, opSlt, opIte}
@@ -23,7 +23,7 @@ use Rattle.operations.specs.Kinds.{kinds, find, kindOf}
 use Rattle.operations.specs.Result.{Below}
 
 abbrev pub Bounded : Kind → Type 0
-Bounded k = (wt p : ℕ) (ws ns : List ℕ) → T (k .fits wt ws p) → Below ws ns → k .plain wt ws p ns < 2 ^ wt
+Bounded k = (wt p : ℕ) (ws ns : List ℕ) → T (asks (k .rule) wt ws p) → Below ws ns → k .plain wt ws p ns < 2 ^ wt
 
 -- operand number i is below 2 to the power of its width; past the end both are 0
 pub below-at : (ws ns : List ℕ) → Below ws ns → (i : ℕ) → getD ns i 0 < 2 ^ getD ws i 0
@@ -148,11 +148,11 @@ ite-bounded wt p ws ns t c =
 
 -- ---- every kind
 
-pub all-bounded : Each Bounded kinds
+pub all-bounded : All Bounded kinds
 unfolding kinds
 all-bounded = (copy-bounded, (not-bounded, (and-bounded, (or-bounded, (xor-bounded, (shl-bounded, (lshr-bounded, (ashr-bounded, (rotl-bounded, (extract-bounded, (concat-bounded, (zext-bounded, (sext-bounded, (add-bounded, (sub-bounded, (neg-bounded, (mul-bounded, (eq-bounded, (ult-bounded, (slt-bounded, (ite-bounded, tt)))))))))))))))))))))
 
-find-bounded : (n : ℕ) (ks : List Kind) → Each Bounded ks → Bounded (find n ks)
+find-bounded : (n : ℕ) (ks : List Kind) → All Bounded ks → Bounded (find n ks)
 find-bounded n [] e = λ wt p ws ns t c. pow-pos wt
 find-bounded n (k ∷ ks) e = choose (eqb (k .number) n) (e .0) (find-bounded n ks (e .1))
   where

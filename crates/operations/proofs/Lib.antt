@@ -1,6 +1,10 @@
+-- The laws and proofs of `operations`.
 pub mod Starred
 pub mod Bounded
 pub mod Lookup
+pub mod Digits
+pub mod Sound
+pub mod Spelling
 pub mod SmtBits
 pub mod SmtNat
 pub mod SmtLogic

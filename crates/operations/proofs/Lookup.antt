@@ -1,20 +1,20 @@
 -- Finding a kind by its number: what holds of every kind holds of the one found. Assumes nothing.
-use mathlib.Core.Path.{_≡_, subst}
-use mathlib.Core.Bool.{Bool, true, false, cond, _||_}
+use mathlib.Core.Path.{_≡_, refl, subst}
+use mathlib.Core.Bool.{Bool, true, false, cond, _&&_, _||_}
 use mathlib.Core.List.{List, [], _∷_}
-use Prim.Native.Nat.{ℕ, _<_}
+use Prim.Native.Nat.{ℕ, suc, _<_}
 use native.Mathlib.Omega.{arith}
-use lib.Dec.{T, eqb, eqb→eq}
+use native.Mathlib.Decide.{decLt}
+use borrow.Author.Tests.{le-leb, lt-leb}
+use lib.Dec.{T, ltb, ltb→lt, eqb, eqb→eq}
 use Rattle.bits.specs.Below.{allBelow}
 use Rattle.bits.proofs.Below.{allBelow-elim}
-use Rattle.vectors.specs.Lists.{Each}
+use Rattle.bits.proofs.Bools.{T-left, T-right}
+use Rattle.vectors.specs.Lists.{All}
 use Rattle.operations.specs.Kind.{Kind}
-use Rattle.operations.specs.Bitwise.{opCopy, opNot, opAnd, opOr, opXor}
-use Rattle.operations.specs.Moves.{opShl, opLshr, opAshr, opRotl, opExtract, opConcat, opZext, opSext}
-use Rattle.operations.specs.Arithmetic.{opAdd, opSub, opNeg, opMul, opEq, opUlt, opSlt, opIte}
-use Rattle.operations.specs.Kinds.{kinds, numbered, find, isKind, kindOf}
+use Rattle.operations.specs.Kinds.{kinds, kindCount, numbered, find, isKind, kindOf}
 
-found : (P : Kind → Type 0) (n : ℕ) (ks : List Kind) → Each P ks → T (numbered n ks) → P (find n ks) × (find n ks .number ≡ n)
+found : (P : Kind → Type 0) (n : ℕ) (ks : List Kind) → All P ks → T (numbered n ks) → P (find n ks) × (find n ks .number ≡ n)
 found P n [] e t = absurd t
 found P n (k ∷ ks) e t = go (eqb (k .number) n) (eqb→eq (k .number) n) t (found P n ks (e .1))
   where
@@ -24,27 +24,62 @@ found P n (k ∷ ks) e t = go (eqb (k .number) n) (eqb→eq (k .number) n) t (fo
     go false f u g = g u
 
 -- what holds of every kind holds of the kind that has a number
-pub each-kind : (P : Kind → Type 0) → Each P kinds → (n : ℕ) → T (isKind n) → P (kindOf n)
+pub each-kind : (P : Kind → Type 0) → All P kinds → (n : ℕ) → T (isKind n) → P (kindOf n)
 unfolding isKind kindOf
 each-kind P e n t = found P n kinds e t .0
 
 -- the kind found has the number looked for
-pub kind-number : (P : Kind → Type 0) → Each P kinds → (n : ℕ) → T (isKind n) → kindOf n .number ≡ n
+pub kind-number : (P : Kind → Type 0) → All P kinds → (n : ℕ) → T (isKind n) → kindOf n .number ≡ n
 unfolding isKind kindOf
 kind-number P e n t = found P n kinds e t .1
 
--- ---- the numbers of kinds are those below 21
+-- ---- the numbers of kinds are those below kindCount
 
-numbers-below : Each (λ k. k .number < 21) kinds
-unfolding kinds opCopy opNot opAnd opOr opXor opShl opLshr opAshr opRotl opExtract opConcat opZext opSext opAdd opSub opNeg opMul opEq opUlt opSlt opIte
-numbers-below = (omega arith, (omega arith, (omega arith, (omega arith, (omega arith, (omega arith, (omega arith, (omega arith, (omega arith, (omega arith, (omega arith, (omega arith, (omega arith, (omega arith, (omega arith, (omega arith, (omega arith, (omega arith, (omega arith, (omega arith, (omega arith, tt)))))))))))))))))))))
+-- the code's constant
+pub count-is : kindCount ≡ 21
+unfolding kindCount
+count-is = refl
 
-pub kind-below : (n : ℕ) → T (isKind n) → n < 21
-kind-below n t = subst (λ (m : ℕ). m < 21) (kind-number (λ k. k .number < 21) numbers-below n t) (each-kind (λ k. k .number < 21) numbers-below n t)
+lows : List Kind → Bool
+lows [] = true
+lows (k ∷ ks) = ltb (k .number) kindCount && lows ks
 
-all-below : T (allBelow 21 isKind)
-unfolding allBelow isKind kinds opCopy opNot opAnd opOr opXor opShl opLshr opAshr opRotl opExtract opConcat opZext opSext opAdd opSub opNeg opMul opEq opUlt opSlt opIte
+all-low : T (lows kinds)
+unfolding lows kindCount
+all-low = tt
+
+low-of : (n : ℕ) (ks : List Kind) → T (lows ks) → T (numbered n ks) → n < kindCount
+unfolding lows
+low-of n [] l t = absurd t
+low-of n (k ∷ ks) l t = go (eqb (k .number) n) (eqb→eq (k .number) n) t (low-of n ks (T-right (ltb (k .number) kindCount) (lows ks) l))
+  where
+    go : (b : Bool) → (T b → k .number ≡ n) → T (b || numbered n ks) → (T (numbered n ks) → n < kindCount) → n < kindCount
+    go true f u g = subst (λ (m : ℕ). m < kindCount) (f tt) (ltb→lt (k .number) kindCount (T-left (ltb (k .number) kindCount) (lows ks) l))
+    go false f u g = g u
+
+pub kind-below : (n : ℕ) → T (isKind n) → n < kindCount
+unfolding isKind
+kind-below n t = low-of n kinds all-low t
+
+all-below : T (allBelow kindCount isKind)
+unfolding allBelow isKind kindCount
 all-below = tt
 
-pub below-kind : (n : ℕ) → n < 21 → T (isKind n)
-below-kind n h = allBelow-elim 21 isKind all-below n h
+pub below-kind : (n : ℕ) → n < kindCount → T (isKind n)
+below-kind n h = allBelow-elim kindCount isKind all-below n h
+
+-- a test of all numbers of kinds, computed once, holds of each
+pub kind-test : (p : ℕ → Bool) → T (allBelow kindCount p) → (n : ℕ) → T (isKind n) → T (p n)
+kind-test p t n h = allBelow-elim kindCount p t n (kind-below n h)
+
+-- the code's test
+known : (n : ℕ) (b : Bool) → (T b → n < kindCount) → (n < kindCount → T b) → ltb n 21 ≡ b
+known n true f g = le-leb (suc n) 21 (omega (arith, count-is, f tt))
+known n false f g =
+    elim (decLt n 21) [
+      | yes y ↦ absurd (g (omega (arith, count-is)))
+      | no z ↦ lt-leb (suc n) 21 (omega arith)
+    ]
+
+pub kind-known : (n : ℕ) → ltb n 21 ≡ isKind n
+kind-known n = known n (isKind n) (kind-below n) (below-kind n)

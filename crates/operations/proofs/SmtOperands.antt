@@ -11,7 +11,7 @@ use native.Mathlib.Omega.{arith}
 use lib.Dec.{T, eqb, eqb→eq}
 use lib.ListN.{length}
 use Rattle.bits.proofs.Bools.{T-left, T-right}
-use Rattle.operations.specs.Kind.{sameWidth, sameWidths, chosenWidths, comparedWidths}
+use Rattle.operations.specs.Kind.{asks, Rule, sameWidth, sameWidths, chosenWidths, comparedWidths}
 use Rattle.operations.specs.Result.{Below, arity}
 use Rattle.operations.specs.Bitvector.{bv}
 use Rattle.operations.specs.Terms.{Term, Served, Agrees, vectors}
@@ -44,40 +44,37 @@ by-operands k m e f =
 
 -- ---- by the width rule
 
-abbrev Rule : Type 0
-Rule = ℕ → List ℕ → ℕ → Bool
-
-pub by-same : (m : Term) → arity (m .kind) ≡ 1 → m .kind .fits ≡ sameWidth
+pub by-same : (m : Term) → arity (m .kind) ≡ 1 → m .kind .rule ≡ sameWidth
     → ((p w a : ℕ) → Served m w p (w ∷ []) (a ∷ []) → Is w a (bv w a) → Shows m w p (w ∷ []) (a ∷ [])) → Agrees m
 by-same m e r f =
     by-operands 1 m e
     (λ wt p w a h s.
-    let d : wt ≡ w = eqb→eq wt w (subst (λ (fits : Rule). T (fits wt (w ∷ []) p)) r (s .fits)) in
+    let d : wt ≡ w = eqb→eq wt w (subst (λ (r : Rule). T (asks r wt (w ∷ []) p)) r (s .fits)) in
     subst (λ (x : ℕ). Served m x p (w ∷ []) (a ∷ []) → Shows m x p (w ∷ []) (a ∷ [])) (sym d) (λ s. f p w a s h) s)
 
-pub by-both : (m : Term) → arity (m .kind) ≡ 2 → m .kind .fits ≡ sameWidths
+pub by-both : (m : Term) → arity (m .kind) ≡ 2 → m .kind .rule ≡ sameWidths
     → ((p w a b : ℕ) → Is w a (bv w a) → Is w b (bv w b) → Shows m w p (w ∷ w ∷ []) (a ∷ b ∷ [])) → Agrees m
 by-both m e r f =
     by-operands 2 m e
     (λ wt p w a h v b g s.
-    let t : T (eqb wt w && eqb wt v) = subst (λ (fits : Rule). T (fits wt (w ∷ v ∷ []) p)) r (s .fits) in
+    let t : T (eqb wt w && eqb wt v) = subst (λ (r : Rule). T (asks r wt (w ∷ v ∷ []) p)) r (s .fits) in
     let d : wt ≡ w = eqb→eq wt w (T-left (eqb wt w) (eqb wt v) t) in
     let c : wt ≡ v = eqb→eq wt v (T-right (eqb wt w) (eqb wt v) t) in
     subst (λ (x : ℕ). Shows m x p (w ∷ v ∷ []) (a ∷ b ∷ [])) (sym d)
     (subst (λ (x : ℕ). Is x b (bv x b) → Shows m w p (w ∷ x ∷ []) (a ∷ b ∷ [])) (sym d ∙ c) (f p w a b h) g))
 
-pub by-compared : (m : Term) → arity (m .kind) ≡ 2 → m .kind .fits ≡ comparedWidths
+pub by-compared : (m : Term) → arity (m .kind) ≡ 2 → m .kind .rule ≡ comparedWidths
     → ((p w a b : ℕ) → 1 ≤ w → Is w a (bv w a) → Is w b (bv w b) → Shows m 1 p (w ∷ w ∷ []) (a ∷ b ∷ [])) → Agrees m
 by-compared m e r f =
     by-operands 2 m e
     (λ wt p w a h v b g s.
-    let t : T (eqb w v && eqb wt 1) = subst (λ (fits : Rule). T (fits wt (w ∷ v ∷ []) p)) r (s .fits) in
+    let t : T (eqb w v && eqb wt 1) = subst (λ (r : Rule). T (asks r wt (w ∷ v ∷ []) p)) r (s .fits) in
     let d : wt ≡ 1 = eqb→eq wt 1 (T-right (eqb w v) (eqb wt 1) t) in
     let c : w ≡ v = eqb→eq w v (T-left (eqb w v) (eqb wt 1) t) in
     subst (λ (x : ℕ). Shows m x p (w ∷ v ∷ []) (a ∷ b ∷ [])) (sym d)
     (subst (λ (x : ℕ). Is x b (bv x b) → Shows m 1 p (w ∷ x ∷ []) (a ∷ b ∷ [])) c (f p w a b (s .widths .0) h) g))
 
-pub chosen-widths : (wt w v u : ℕ) → T (chosenWidths wt (w ∷ v ∷ u ∷ []) 0) → (wt ≡ w) × (wt ≡ v) × (u ≡ 1)
+pub chosen-widths : (wt w v u : ℕ) → T (asks chosenWidths wt (w ∷ v ∷ u ∷ []) 0) → (wt ≡ w) × (wt ≡ v) × (u ≡ 1)
 chosen-widths wt w v u t =
     let s = T-left (eqb wt w && eqb wt v) (eqb u 1) t in (
       eqb→eq wt w (T-left (eqb wt w) (eqb wt v) s),

@@ -9,7 +9,7 @@ use Prim.Native.Nat.{ℕ, _+_, _-_, _^_}
 use native.Mathlib.Omega.{arith}
 use lib.Dec.{T, eqb, eqb→eq, nltb→le, ltb→lt, leb→le}
 use lib.ListN.{getD, drop}
-use Rattle.vectors.specs.Lists.{Each}
+use Rattle.vectors.specs.Lists.{All}
 use Rattle.operations.specs.Kind.{Kind}
 use Rattle.operations.specs.Bitwise.{opCopy, opNot, opAnd, opOr, opXor}
 use Rattle.operations.specs.Moves.{opShl, opLshr, opAshr, opRotl, opExtract, opConcat, opZext, opSext}
@@ -39,18 +39,18 @@ terms-kinds = refl
 abbrev pub Serving : Term → Type 0
 Serving m = (w p : ℕ) → T (m .serves w p)
 
-serving : (ms : List Term) → map (λ m. m .serves) ms ≡ map (λ m. always) ms → Each Serving ms
+serving : (ms : List Term) → map (λ m. m .serves) ms ≡ map (λ m. always) ms → All Serving ms
 serving [] e = tt
 serving (m ∷ ms) e = (
   subst (λ (f : ℕ → ℕ → Bool). (w p : ℕ) → T (f w p)) (sym (ap (λ l. getD l 0 always) e)) (λ w p. tt),
   serving ms (ap (drop 1) e),
 )
 
-pub terms-serve : Each Serving terms
+pub terms-serve : All Serving terms
 unfolding terms
 terms-serve = serving terms refl
 
-pub terms-agree : Each Agrees terms
+pub terms-agree : All Agrees terms
 unfolding terms bv opCopy opNot opAnd opOr opXor opShl opLshr opAshr opRotl opExtract opConcat opZext opSext opAdd opSub opNeg opMul opEq opUlt opSlt opIte
 terms-agree =
     by-same _ refl refl (λ p w a s h. h)
@@ -79,7 +79,7 @@ terms-agree =
     Is-width (sym (e .0)) (ite-is h (Is-width (sym (e .1) ∙ e .0) g) (Is-width (e .2) k)))
     ⨾ tt
 
-pub narrow-terms-agree : Each Agrees narrowTerms
+pub narrow-terms-agree : All Agrees narrowTerms
 unfolding narrowTerms bv opShl opLshr opAshr
 narrow-terms-agree =
     by-same _ refl refl (λ p w a s h. shl-is h (bv-is (ltb→lt p (2 ^ w) (s .serves))))
@@ -92,7 +92,7 @@ narrow-terms-agree =
 abbrev pub Found : List Term → Kind → Type 0
 Found ms k = (m : Term) × List·Memᴰ m ms × (m .kind ≡ k) × Agrees m × Serving m
 
-found : (n : ℕ) (ms : List Term) → Each Agrees ms → Each Serving ms → T (numbered n (map (λ m. m .kind) ms)) → Found ms (find n (map (λ m. m .kind) ms))
+found : (n : ℕ) (ms : List Term) → All Agrees ms → All Serving ms → T (numbered n (map (λ m. m .kind) ms)) → Found ms (find n (map (λ m. m .kind) ms))
 found n [] f g t = absurd t
 found n (m ∷ ms) f g t = choose (eqb (m .kind .number) n) (found n ms (f .1) (g .1)) t
   where

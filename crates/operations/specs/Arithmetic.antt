@@ -16,7 +16,7 @@ opAdd =
       use-a = asRow;
       use-b = asRow;
       use-p = unused;
-      fits = sameWidths;
+      rule = sameWidths;
       plain = λ wt ws p ns. (first ns + second ns) % 2 ^ first ws;
     }
 
@@ -29,7 +29,7 @@ opSub =
       use-a = asRow;
       use-b = asRow;
       use-p = unused;
-      fits = sameWidths;
+      rule = sameWidths;
       plain = λ wt ws p ns. (2 ^ first ws + first ns - second ns) % 2 ^ first ws;
     }
 
@@ -42,7 +42,7 @@ opNeg =
       use-a = asRow;
       use-b = unused;
       use-p = unused;
-      fits = sameWidth;
+      rule = sameWidth;
       plain = λ wt ws p ns. (2 ^ first ws - first ns) % 2 ^ first ws;
     }
 
@@ -55,7 +55,7 @@ opMul =
       use-a = asRow;
       use-b = asRow;
       use-p = unused;
-      fits = sameWidths;
+      rule = sameWidths;
       plain = λ wt ws p ns. first ns * second ns % 2 ^ first ws;
     }
 
@@ -68,7 +68,7 @@ opEq =
       use-a = asRow;
       use-b = asRow;
       use-p = unused;
-      fits = comparedWidths;
+      rule = comparedWidths;
       plain = λ wt ws p ns. digit (eqb (first ns) (second ns));
     }
 
@@ -81,7 +81,7 @@ opUlt =
       use-a = asRow;
       use-b = asRow;
       use-p = unused;
-      fits = comparedWidths;
+      rule = comparedWidths;
       plain = λ wt ws p ns. digit (ltb (first ns) (second ns));
     }
 
@@ -94,7 +94,7 @@ opSlt =
       use-a = asRow;
       use-b = asRow;
       use-p = unused;
-      fits = comparedWidths;
+      rule = comparedWidths;
       plain = λ wt ws p ns. digit (ltb (first ns + 2 ^ first ws * bit (second ns) (first ws - 1)) (second ns + 2 ^ first ws * bit (first ns) (first ws - 1)));
     }
 
@@ -107,6 +107,6 @@ opIte =
       use-a = asRow;
       use-b = asRow;
       use-p = asRow;
-      fits = chosenWidths;
+      rule = chosenWidths;
       plain = λ wt ws p ns. cond (eqb (third ns) 1) (first ns) (second ns);
     }

@@ -14,7 +14,7 @@ opCopy =
       use-a = asRow;
       use-b = unused;
       use-p = unused;
-      fits = sameWidth;
+      rule = sameWidth;
       plain = λ wt ws p ns. first ns;
     }
 
@@ -27,7 +27,7 @@ opNot =
       use-a = asRow;
       use-b = unused;
       use-p = unused;
-      fits = sameWidth;
+      rule = sameWidth;
       plain = λ wt ws p ns. 2 ^ first ws - 1 - first ns;
     }
 
@@ -40,7 +40,7 @@ opAnd =
       use-a = asRow;
       use-b = asRow;
       use-p = unused;
-      fits = sameWidths;
+      rule = sameWidths;
       plain = λ wt ws p ns. bitAnd (first ns) (second ns);
     }
 
@@ -52,7 +52,7 @@ opOr =
       use-a = asRow;
       use-b = asRow;
       use-p = unused;
-      fits = sameWidths;
+      rule = sameWidths;
       plain = λ wt ws p ns. bitOr (first ns) (second ns);
     }
 
@@ -64,6 +64,6 @@ opXor =
       use-a = asRow;
       use-b = asRow;
       use-p = unused;
-      fits = sameWidths;
+      rule = sameWidths;
       plain = λ wt ws p ns. bitXor (first ns) (second ns);
     }

@@ -1,9 +1,9 @@
 -- What there is to say of a kind of operation (01, "Records" and "Points and plain runs").
 --   bytes s         the bytes of a quoted word
 --   Use             what a word of a record is to an operation: a row, a number, or nothing
+--   Rule            what an operation asks of the widths;   asks r   that, as a test
 --   Kind            number, text name, use of the words a, b and p, width rule, plain number
 --   first l, second l, third l   the operands' widths or numbers, in the order of the words
---   sameWidth, sameWidths, chosenWidths, comparedWidths, joinedWidths, takenWidth, extendedWidth   the width rules
 use mathlib.Core.Bool.{Bool, _&&_}
 use mathlib.Core.List.{List, [], _∷_}
 use Prim.Native.Nat.{ℕ, _+_}
@@ -20,15 +20,17 @@ bytes (S._∷_ c s) = code c ∷ bytes s
 pub data Use : Type 0 where
   asRow asNumber unused : Use
 
--- fits: of the target's width, the operand rows' widths and the parameter, whether the widths fit.
--- plain: of these and the operands' numbers, the new number of the target in a plain run.
+pub data Rule : Type 0 where
+  sameWidth sameWidths takenWidth joinedWidths extendedWidth comparedWidths chosenWidths : Rule
+
+-- plain: of the target's width, the operand rows' widths, the parameter and the operands' numbers, the new number of the target in a plain run.
 pub record Kind : Type 0 where
   pub number : ℕ
   pub name : List ℕ
   pub use-a : Use
   pub use-b : Use
   pub use-p : Use
-  pub fits : ℕ → List ℕ → ℕ → Bool
+  pub rule : Rule
   pub plain : ℕ → List ℕ → ℕ → List ℕ → ℕ
 
 abbrev pub first : List ℕ → ℕ
@@ -40,30 +42,19 @@ second l = getD l 1 0
 abbrev pub third : List ℕ → ℕ
 third l = getD l 2 0
 
+-- What a rule asks of the target's width, the operand rows' widths and the parameter.
+abbrev pub asks : Rule → ℕ → List ℕ → ℕ → Bool
 -- wt = wa
-abbrev pub sameWidth : ℕ → List ℕ → ℕ → Bool
-sameWidth wt ws p = eqb wt (first ws)
-
+asks sameWidth wt ws p = eqb wt (first ws)
 -- all widths equal
-abbrev pub sameWidths : ℕ → List ℕ → ℕ → Bool
-sameWidths wt ws p = eqb wt (first ws) && eqb wt (second ws)
-
--- wt = wa = wb, and the condition row has width 1
-abbrev pub chosenWidths : ℕ → List ℕ → ℕ → Bool
-chosenWidths wt ws p = sameWidths wt ws p && eqb (third ws) 1
-
--- wa = wb, wt = 1
-abbrev pub comparedWidths : ℕ → List ℕ → ℕ → Bool
-comparedWidths wt ws p = eqb (first ws) (second ws) && eqb wt 1
-
--- wt = wa + wb
-abbrev pub joinedWidths : ℕ → List ℕ → ℕ → Bool
-joinedWidths wt ws p = eqb wt (first ws + second ws)
-
+asks sameWidths wt ws p = eqb wt (first ws) && eqb wt (second ws)
 -- p + wt ≤ wa
-abbrev pub takenWidth : ℕ → List ℕ → ℕ → Bool
-takenWidth wt ws p = leb (p + wt) (first ws)
-
+asks takenWidth wt ws p = leb (p + wt) (first ws)
+-- wt = wa + wb
+asks joinedWidths wt ws p = eqb wt (first ws + second ws)
 -- wt ≥ wa
-abbrev pub extendedWidth : ℕ → List ℕ → ℕ → Bool
-extendedWidth wt ws p = leb (first ws) wt
+asks extendedWidth wt ws p = leb (first ws) wt
+-- wa = wb, wt = 1
+asks comparedWidths wt ws p = eqb (first ws) (second ws) && eqb wt 1
+-- wt = wa = wb, and the condition row has width 1
+asks chosenWidths wt ws p = eqb wt (first ws) && eqb wt (second ws) && eqb (third ws) 1

@@ -1,5 +1,5 @@
 -- All kinds, and the kind that has a number (01, "Records").
---   kinds       the 21 kinds, numbers rising
+--   kinds       the kinds, numbers rising;   kindCount   how many there are
 --   numbered n ks, find n ks   a kind of the list has the number n; the first that has it, else opNone
 --   isKind n    some kind has the number n
 --   kindOf n    that kind; for a number that no kind has, opNone, which refusal 6 keeps from acting
@@ -7,12 +7,15 @@ use mathlib.Core.Bool.{Bool, false, cond, _||_}
 use mathlib.Core.List.{List, [], _∷_}
 use Prim.Native.Nat.{ℕ}
 use lib.Dec.{eqb}
-use Rattle.operations.specs.Kind.{unused, Kind}
+use lib.ListN.{length}
+use Rattle.operations.specs.Kind.{unused, sameWidth, Kind}
 use Rattle.operations.specs.Bitwise.{opCopy, opNot, opAnd, opOr, opXor}
 use Rattle.operations.specs.Moves.{opShl, opLshr, opAshr, opRotl, opExtract, opConcat, opZext, opSext}
 use Rattle.operations.specs.Arithmetic.{opAdd, opSub, opNeg, opMul, opEq, opUlt, opSlt, opIte}
 
+-- Whoever unfolds the list unfolds the kinds with it.
 unfoldable pub kinds : List Kind
+unfolding opCopy opNot opAnd opOr opXor opShl opLshr opAshr opRotl opExtract opConcat opZext opSext opAdd opSub opNeg opMul opEq opUlt opSlt opIte
 kinds =
     opCopy
     ∷ opNot
@@ -37,8 +40,12 @@ kinds =
     ∷ opIte
     ∷ []
 
+unfoldable pub kindCount : ℕ
+unfolding kinds
+kindCount = length kinds
+
 abbrev pub opNone : Kind
-opNone = record { number = 0; name = []; use-a = unused; use-b = unused; use-p = unused; fits = λ wt ws p. false; plain = λ wt ws p ns. 0 }
+opNone = record { number = 0; name = []; use-a = unused; use-b = unused; use-p = unused; rule = sameWidth; plain = λ wt ws p ns. 0 }
 
 abbrev pub numbered : ℕ → List Kind → Bool
 numbered n [] = false
@@ -49,7 +56,9 @@ find n [] = opNone
 find n (k ∷ ks) = cond (eqb (k .number) n) k (find n ks)
 
 unfoldable pub isKind : ℕ → Bool
+unfolding kinds
 isKind n = numbered n kinds
 
 unfoldable pub kindOf : ℕ → Kind
+unfolding kinds
 kindOf n = find n kinds

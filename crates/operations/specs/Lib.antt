@@ -1,9 +1,11 @@
+-- The definitions of `operations`.
 pub mod Limits
 pub mod Kind
 pub mod Bitwise
 pub mod Moves
 pub mod Arithmetic
 pub mod Kinds
+pub mod Encoding
 pub mod Record
 pub mod Result
 pub mod Bitvector

@@ -17,7 +17,7 @@ opShl =
       use-a = asRow;
       use-b = unused;
       use-p = asNumber;
-      fits = sameWidth;
+      rule = sameWidth;
       plain = λ wt ws p ns. first ns * 2 ^ p % 2 ^ first ws;
     }
 
@@ -30,7 +30,7 @@ opLshr =
       use-a = asRow;
       use-b = unused;
       use-p = asNumber;
-      fits = sameWidth;
+      rule = sameWidth;
       plain = λ wt ws p ns. first ns / 2 ^ p;
     }
 
@@ -43,7 +43,7 @@ opAshr =
       use-a = asRow;
       use-b = unused;
       use-p = asNumber;
-      fits = sameWidth;
+      rule = sameWidth;
       plain = λ wt ws p ns. number (first ws) (λ k. isSet (first ns) (min (k + p) (first ws - 1)));
     }
 
@@ -56,7 +56,7 @@ opRotl =
       use-a = asRow;
       use-b = unused;
       use-p = asNumber;
-      fits = sameWidth;
+      rule = sameWidth;
       plain = λ wt ws p ns. number (first ws) (λ j. someBelow (first ws) (λ k. eqb ((k + p) % first ws) j && isSet (first ns) k));
     }
 
@@ -69,7 +69,7 @@ opExtract =
       use-a = asRow;
       use-b = unused;
       use-p = asNumber;
-      fits = takenWidth;
+      rule = takenWidth;
       plain = λ wt ws p ns. first ns / 2 ^ p % 2 ^ wt;
     }
 
@@ -82,7 +82,7 @@ opConcat =
       use-a = asRow;
       use-b = asRow;
       use-p = unused;
-      fits = joinedWidths;
+      rule = joinedWidths;
       plain = λ wt ws p ns. first ns * 2 ^ second ws + second ns;
     }
 
@@ -95,7 +95,7 @@ opZext =
       use-a = asRow;
       use-b = unused;
       use-p = unused;
-      fits = extendedWidth;
+      rule = extendedWidth;
       plain = λ wt ws p ns. first ns;
     }
 
@@ -108,6 +108,6 @@ opSext =
       use-a = asRow;
       use-b = unused;
       use-p = unused;
-      fits = extendedWidth;
+      rule = extendedWidth;
       plain = λ wt ws p ns. number wt (λ k. isSet (first ns) (min k (first ws - 1)));
     }

@@ -5,7 +5,7 @@
 --   rowsNamed words  the operand rows that the words a, b and p name, in that order
 --   widthAt widths i the width of row i
 --   Fault, fault b n   a condition, and the number of the refusal that it causes
---   kindUnknown, outside, misused, widthsFit, targetLocked   the conditions of 6, 7, 8, 9 (that it does not hold) and 10
+--   kindUnknown, wordOutside, misused, widthsFit, targetLocked   the conditions of 6, 7, 8, 9 (that it does not hold) and 10
 --   namedFaults n    checks 6 to 8 against n rows;  recordFaults   checks 6 to 9, in order;  lockFault   check 10
 --   Effect           a target row, operand rows, and the target's new number as a function of the operands' numbers
 --   effectOf         a record's effect;  effectsOf   the list of its effects, that one alone
@@ -15,7 +15,7 @@ use Prim.Native.Nat.{ℕ}
 use lib.Dec.{leb, ltb, eqb}
 use lib.ListN.{length, getD}
 use Rattle.operations.specs.Limits.{parameterLimit}
-use Rattle.operations.specs.Kind.{Use, asRow, asNumber, unused, Kind}
+use Rattle.operations.specs.Kind.{asks, Use, asRow, asNumber, unused, Kind}
 use Rattle.operations.specs.Kinds.{isKind, kindOf}
 
 abbrev pub kindWord : List ℕ → ℕ
@@ -66,10 +66,10 @@ abbrev pub kindUnknown : List ℕ → Bool
 kindUnknown words = not (isKind (kindWord words))
 
 -- 7: a used row word outside the table, which has n rows
-abbrev pub outside : ℕ → Use → ℕ → Bool
-outside n asRow word = leb n word
-outside n asNumber word = false
-outside n unused word = false
+abbrev pub wordOutside : ℕ → Use → ℕ → Bool
+wordOutside n asRow word = leb n word
+wordOutside n asNumber word = false
+wordOutside n unused word = false
 
 -- 8: an unused word not 0, or a shift, rotation or extract parameter over 31
 abbrev pub misused : Use → ℕ → Bool
@@ -79,7 +79,7 @@ misused unused word = not (eqb word 0)
 
 -- 9: widths don't fit
 abbrev pub widthsFit : List ℕ → List ℕ → Bool
-widthsFit widths words = kindIn words .fits (widthAt widths (targetWord words)) (map (widthAt widths) (rowsNamed words)) (parameterWord words)
+widthsFit widths words = asks (kindIn words .rule) (widthAt widths (targetWord words)) (map (widthAt widths) (rowsNamed words)) (parameterWord words)
 
 -- 10: target row locked
 abbrev pub targetLocked : List ℕ → List ℕ → Bool
@@ -88,10 +88,10 @@ targetLocked locks words = eqb (getD locks (targetWord words) 0) 1
 abbrev pub namedFaults : ℕ → List ℕ → List Fault
 namedFaults n words =
     fault (kindUnknown words) 6
-    ∷ fault (outside n asRow (targetWord words)) 7
-    ∷ fault (outside n (kindIn words .use-a) (firstWord words)) 7
-    ∷ fault (outside n (kindIn words .use-b) (secondWord words)) 7
-    ∷ fault (outside n (kindIn words .use-p) (parameterWord words)) 7
+    ∷ fault (wordOutside n asRow (targetWord words)) 7
+    ∷ fault (wordOutside n (kindIn words .use-a) (firstWord words)) 7
+    ∷ fault (wordOutside n (kindIn words .use-b) (secondWord words)) 7
+    ∷ fault (wordOutside n (kindIn words .use-p) (parameterWord words)) 7
     ∷ fault (misused (kindIn words .use-a) (firstWord words)) 8
     ∷ fault (misused (kindIn words .use-b) (secondWord words)) 8
     ∷ fault (misused (kindIn words .use-p) (parameterWord words)) 8

@@ -10,14 +10,14 @@ use mathlib.Core.List.{List, map}
 use Prim.Native.Nat.{ℕ, _^_, _≤_, _<_}
 use lib.Dec.{T}
 use lib.ListN.{length}
-use Rattle.vectors.specs.Lists.{Each, Along}
+use Rattle.vectors.specs.Lists.{All, Pointwise}
 use Rattle.vectors.specs.Row.{Row, WellFormed}
 use Rattle.vectors.specs.Best.{best}
-use Rattle.operations.specs.Kind.{Kind}
+use Rattle.operations.specs.Kind.{asks, Kind}
 use Rattle.operations.specs.Record.{operands, misused}
 
 abbrev pub Below : List ℕ → List ℕ → Type 0
-Below ws ns = Along (λ w n. n < 2 ^ w) ws ns
+Below ws ns = Pointwise (λ w n. n < 2 ^ w) ws ns
 
 abbrev pub widthsOf : List Row → List ℕ
 widthsOf rows = map (λ r. r .width) rows
@@ -30,8 +30,8 @@ arity k = length (operands {A = ℕ} k 0 0 0)
 
 pub record Ready (k : Kind) (wt p : ℕ) (rows : List Row) : Type 0 where
   pub count : length rows ≡ arity k
-  pub formed : Each WellFormed rows
+  pub formed : All WellFormed rows
   pub wide : 1 ≤ wt
-  pub widths : Each (λ r. 1 ≤ r .width) rows
-  pub fits : T (k .fits wt (widthsOf rows) p)
+  pub widths : All (λ r. 1 ≤ r .width) rows
+  pub fits : T (asks (k .rule) wt (widthsOf rows) p)
   pub parameter : T (not (misused (k .use-p) p))

@@ -14,8 +14,8 @@ use mathlib.Core.List.{List, [], _∷_}
 use Prim.Native.Nat.{ℕ, _+_, _-_, _^_, _≤_}
 use lib.Dec.{T, ltb}
 use lib.ListN.{length, getD}
-use Rattle.vectors.specs.Lists.{Each}
-use Rattle.operations.specs.Kind.{Kind, first}
+use Rattle.vectors.specs.Lists.{All}
+use Rattle.operations.specs.Kind.{asks, Kind, first}
 use Rattle.operations.specs.Bitwise.{opCopy, opNot, opAnd, opOr, opXor}
 use Rattle.operations.specs.Moves.{opShl, opLshr, opAshr, opRotl, opExtract, opConcat, opZext, opSext}
 use Rattle.operations.specs.Arithmetic.{opAdd, opSub, opNeg, opMul, opEq, opUlt, opSlt, opIte}
@@ -93,9 +93,9 @@ vectors (w ∷ ws) (n ∷ ns) = bv w n ∷ vectors ws ns
 pub record Served (m : Term) (wt p : ℕ) (ws ns : List ℕ) : Type 0 where
   pub count : length ws ≡ arity (m .kind)
   pub wide : 1 ≤ wt
-  pub widths : Each (λ w. 1 ≤ w) ws
+  pub widths : All (λ w. 1 ≤ w) ws
   pub below : Below ws ns
-  pub fits : T (m .kind .fits wt ws p)
+  pub fits : T (asks (m .kind .rule) wt ws p)
   pub parameter : T (not (misused (m .kind .use-p) p))
   pub serves : T (m .serves (first ws) p)
 

@@ -1,1 +1,87 @@
-// Definitions and laws only.
+// The kinds as code: their number, and what each uses and asks of the widths, as the kinds' descriptions say.
+// A description is a digit of two bits to each kind, kind 0 the last: a shift reads it, and no table lies in memory. There is room for 32 kinds.
+ghost use mathlib.Core.Path.{_≡_};
+ghost use Prim.Native.Nat.{_<_};
+ghost use lib.Dec.{T};
+ghost use lib.ListN.{length, getD};
+ghost use Rattle.operations.specs.Kinds.{isKind, kindOf};
+ghost use Rattle.operations.specs.Encoding.{digitOf, useCode, ruleCode};
+
+// How many kinds there are.
+pub const KINDS: u32 = 21;
+
+// What the word b is to each kind: 0 nothing, 1 a row, 2 a number.
+const SECOND: u64 = 0b01_01_01_01_01_00_01_01_00_00_01_00_00_00_00_00_01_01_01_00_00;
+
+// The same of the word p.
+const PARAMETER: u64 = 0b01_00_00_00_00_00_00_00_00_00_00_10_10_10_10_10_00_00_00_00_00;
+
+// The width rule of each kind, in two digits.
+const RULES: u64 = 0b10_01_01_01_01_00_01_01_00_00_11_10_00_00_00_00_01_01_01_00_00;
+
+const RULES_FOURS: u64 = 0b01_01_01_01_00_00_00_00_01_01_00_00_00_00_00_00_00_00_00_00_00;
+
+// The length of each kind's name, in two digits.
+const LENGTHS: u64 = 0b11_11_11_10_11_11_11_11_00_00_10_11_00_00_00_11_11_10_11_11_00;
+
+const LENGTHS_FOURS: u64 = 0b00_00_00_00_00_00_00_00_01_01_01_01_01_01_01_00_00_00_00_00_01;
+
+// The names, by kind, eight bytes to each.
+const NAMES: [u8; 168] =
+    *b"copy    not     and     or      xor     shl     lshr    ashr    rotl    extract concat  zext    sext    add     sub     neg     mul     eq      ult     slt     ite     ";
+
+// Whether there is a kind of that number.
+pub fn is_kind(kind: u32) -> bool
+    ensures { λ r. ⌜ r ≡ isKind kind ⌝ }
+{
+    kind < KINDS
+}
+
+// The digit of a kind.
+fn digit(word: u64, kind: u32) -> u64
+    requires { ⌜ kind < 32 ⌝ }
+    ensures { λ r. ⌜ r ≡ digitOf word kind ⌝ }
+{
+    (word >> (kind * 2)) % 4
+}
+
+// What the word b is to a kind.
+pub fn second_use(kind: u32) -> u64
+    requires { ⌜ T (isKind kind) ⌝ }
+    ensures { λ r. ⌜ r ≡ useCode (kindOf kind .use-b) ⌝ }
+{
+    digit(SECOND, kind)
+}
+
+// The same of the word p.
+pub fn parameter_use(kind: u32) -> u64
+    requires { ⌜ T (isKind kind) ⌝ }
+    ensures { λ r. ⌜ r ≡ useCode (kindOf kind .use-p) ⌝ }
+{
+    digit(PARAMETER, kind)
+}
+
+// The width rule of a kind.
+pub fn rule(kind: u32) -> u64
+    requires { ⌜ T (isKind kind) ⌝ }
+    ensures { λ r. ⌜ r ≡ ruleCode (kindOf kind .rule) ⌝ }
+{
+    digit(RULES, kind) + digit(RULES_FOURS, kind) * 4
+}
+
+// The length of a kind's name.
+pub fn name_len(kind: usize) -> usize
+    requires { ⌜ T (isKind kind) ⌝ }
+    ensures { λ r. ⌜ r ≡ length (kindOf kind .name) ⌝ }
+{
+    let k = kind as u32;
+    (digit(LENGTHS, k) + digit(LENGTHS_FOURS, k) * 4) as usize
+}
+
+// A byte of it.
+pub fn name_byte(kind: usize, i: usize) -> u8
+    requires { ⌜ T (isKind kind) × (i < length (kindOf kind .name)) ⌝ }
+    ensures { λ r. ⌜ r ≡ getD (kindOf kind .name) i 0 ⌝ }
+{
+    NAMES[kind * 8 + i]
+}

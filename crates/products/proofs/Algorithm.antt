@@ -18,7 +18,7 @@ use Rattle.operations.specs.Arithmetic.{opMul}
 use Rattle.operations.specs.Result.{resultOf}
 use Rattle.products.specs.declared.factors.Extremes.{Extremes}
 use Rattle.products.specs.OutputBits.{outputBit}
-use Rattle.products.specs.Column.{columnFloor, bitOfFloors}
+use Rattle.products.specs.ColumnSum.{columnFloor, bitOfFloors}
 use Rattle.products.specs.Factors.{extremesOf, withPair, settledBit}
 use Rattle.products.specs.Rule.{DoublyUnknown}
 use Rattle.products.proofs.SetBits.{set-or}

@@ -10,7 +10,7 @@ use native.Mathlib.Omega.{arith}
 use lib.Pow.{pow-pos, split}
 use Rattle.bits.specs.Bit.{bit}
 use Rattle.bits.proofs.Shifts.{mod-pow-suc}
-use Rattle.products.specs.Column.{sum, termsBelow, onePairs}
+use Rattle.products.specs.ColumnSum.{sum, termsBelow, onePairs}
 use Rattle.products.specs.Factors.{lowRow}
 use Rattle.products.proofs.Sums.{sum-cong, sum-reverse, triangle-swap}
 use Rattle.products.proofs.LowRows.{row-parts, row-terms}

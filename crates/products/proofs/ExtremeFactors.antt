@@ -14,7 +14,7 @@ use Rattle.vectors.specs.Row.{row, WellFormed, Covers}
 use Rattle.products.specs.Factors.{lowRow, leastFactor, greatestFactor, leastBit, greatestBit}
 use Rattle.products.specs.Rule.{DoublyUnknown, Least, Greatest}
 use Rattle.products.proofs.SetBits.{set-covers}
-use Rattle.products.proofs.Extremes.{Like, Unlike}
+use Rattle.products.proofs.ExtremeBits.{Like, Unlike}
 use Rattle.products.proofs.Reached.{Known, Extreme, doubly-swap, least-none, greatest-none, least-one, greatest-one}
 use Rattle.products.proofs.Floors.{le-of-sums}
 use Rattle.products.proofs.Masks.{least-covers, greatest-covers, least-extreme, greatest-extreme}

@@ -9,7 +9,7 @@ use native.Mathlib.Nat.{mul-le-mul-left, mul-one}
 use native.Mathlib.Omega.{arith}
 use Rattle.bits.specs.Bit.{bit}
 use Rattle.bits.proofs.Bits.{bit-lt, bit-cases}
-use Rattle.products.specs.Column.{termsBelow, onePairs}
+use Rattle.products.specs.ColumnSum.{termsBelow, onePairs}
 use Rattle.products.specs.Factors.{lowRow}
 use Rattle.products.proofs.Sums.{sum-le, sum-add, sum-scale, sum-point}
 use Rattle.products.proofs.LowRows.{low-row-lt}

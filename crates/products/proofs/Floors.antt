@@ -9,11 +9,11 @@ use lib.Signed.{_≤ℤ_}
 use borrow.Author.Tests.{eq-eqb, ne-eqb}
 use Rattle.bits.specs.Bit.{bit}
 use Rattle.vectors.specs.declared.OutputBit.the-variants.{Zero, One, Unknown}
-use Rattle.products.specs.Column.{termsBelow, onePairs, columnSum, columnFloor, sameInteger, modTwo, bitOfFloors}
+use Rattle.products.specs.ColumnSum.{termsBelow, onePairs, columnSum, columnFloor, sameInteger, modTwo, bitOfFloors}
 use Rattle.products.proofs.Integers.{Minus, minus-pos, minus-unique, minus-same, minus-le, le-minus, minus-floor, minus-mod}
 use Rattle.products.proofs.Columns.{product-bit}
 use Rattle.products.proofs.Flips.{SumLe}
-use Rattle.products.proofs.Walks.{SameFloor}
+use Rattle.products.proofs.FloorSteps.{SameFloor}
 
 pub column-minus : (k a b : ℕ) → Minus (columnSum k a b) (termsBelow k a b) (2 ^ k * onePairs k a b)
 unfolding columnSum

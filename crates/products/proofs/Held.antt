@@ -7,7 +7,7 @@ use lib.IntN.{ℤ, pos, negsuc, _+ℤ_, _-ℤ_}
 use mir.Val.{toZ, ofZ, SFits}
 use mir.Syntax.{w64}
 use mir.Facts.{toZ-ofZ, toZ-pos}
-use Rattle.products.specs.Column.{modTwo}
+use Rattle.products.specs.ColumnSum.{modTwo}
 use Rattle.products.proofs.Integers.{Minus, minus-pos, minus-add, minus-mag}
 
 -- a difference of numbers below 2 ^ 63 fits

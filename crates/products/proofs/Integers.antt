@@ -9,7 +9,7 @@ use lib.Dec.{ltb, leb→le, le→leb}
 use lib.IntN.{ℤ, pos, negsuc, subℕ, _+ℤ_, _-ℤ_}
 use lib.Signed.{mag, shrZ, _≤ℤ_}
 use borrow.Author.Tests.{ltb-true, ltb-false}
-use Rattle.products.specs.Column.{modTwo}
+use Rattle.products.specs.ColumnSum.{modTwo}
 
 abbrev pub Minus : ℤ → ℕ → ℕ → Type 0
 Minus (pos n) p q = n + q ≡ p

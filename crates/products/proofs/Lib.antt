@@ -1,4 +1,4 @@
--- The laws of product bits.
+-- The laws and proofs of `products`.
 pub mod Sums
 pub mod LowRows
 pub mod Columns
@@ -6,8 +6,8 @@ pub mod TwoPairs
 pub mod SetBits
 pub mod Flips
 pub mod Hybrids
-pub mod Walks
-pub mod Extremes
+pub mod FloorSteps
+pub mod ExtremeBits
 pub mod LonePair
 pub mod Reached
 pub mod Integers

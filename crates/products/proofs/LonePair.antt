@@ -4,13 +4,13 @@ use mathlib.Core.Logic.{_⊎_, inl, inr}
 use Prim.Native.Nat.{ℕ, _+_, _-_, _*_, _%_, _^_, _≤_, _<_}
 use native.Mathlib.Omega.{arith}
 use Rattle.bits.specs.Bit.{bit}
-use Rattle.products.specs.Column.{termsBelow, onePairs}
+use Rattle.products.specs.ColumnSum.{termsBelow, onePairs}
 use Rattle.products.specs.Factors.{lowRow}
 use Rattle.products.proofs.LowRows.{low-row-lt}
 use Rattle.products.proofs.Columns.{lower, pair, terms-swap, pairs-swap}
 use Rattle.products.proofs.SetBits.{set-at, set-other, set-low}
 use Rattle.products.proofs.Flips.{SumLe, AgreeBut, point-terms, point-pairs}
-use Rattle.products.proofs.Extremes.{two-ind}
+use Rattle.products.proofs.ExtremeBits.{two-ind}
 
 -- ---- one bit set
 

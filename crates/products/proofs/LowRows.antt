@@ -6,7 +6,7 @@ use native.Mathlib.Omega.{arith}
 use lib.Pow.{pow-pos, pow-add, split}
 use Rattle.bits.specs.Bit.{bit}
 use Rattle.bits.proofs.Shifts.{mod-pow-suc}
-use Rattle.products.specs.Column.{sum}
+use Rattle.products.specs.ColumnSum.{sum}
 use Rattle.products.specs.Factors.{lowRow}
 
 -- three parts: above bit k, bit k, below it

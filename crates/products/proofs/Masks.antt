@@ -10,7 +10,7 @@ use Rattle.bits.proofs.Numbers.{below-of-bits}
 use Rattle.bits.proofs.Reversed.{bit-reversed}
 use Rattle.vectors.specs.Row.{row, WellFormed, Covers}
 use Rattle.products.specs.Factors.{andNot, leastFactor, greatestFactor}
-use Rattle.products.proofs.Extremes.{Like, Unlike}
+use Rattle.products.proofs.ExtremeBits.{Like, Unlike}
 use Rattle.products.proofs.Reached.{Extreme}
 
 -- partners meet

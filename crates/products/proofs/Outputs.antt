@@ -11,7 +11,7 @@ use Rattle.vectors.proofs.Rows.{covers-value}
 use Rattle.columns.specs.Settled.{productOf}
 use Rattle.columns.proofs.ProductMask.{product-varies, product-steady, product-value}
 use Rattle.products.specs.OutputBits.{outputBit}
-use Rattle.products.proofs.Walks.{Other}
+use Rattle.products.proofs.FloorSteps.{Other}
 
 pub output-unknown : (r : Row) (k : ℕ) → bit (r .mask) k ≡ 1 → outputBit r k ≡ Unknown
 unfolding outputBit

@@ -5,7 +5,7 @@
 use mathlib.Core.Path.{_≡_, sym, ap, ap₂, subst, _∙_}
 use mathlib.Core.Logic.{inl, inr}
 use Prim.Native.Nat.{ℕ, _-_, _*_, _%_, _^_, _≤_, _<_}
-use native.Mathlib.Nat.{lt-of-le-of-lt, lt-of-lt-of-le, mod-eq-of-lt}
+use native.Mathlib.Nat.{lt-of-le-of-lt, mod-eq-of-lt}
 use native.Mathlib.Omega.{arith}
 use lib.Pow.{pow-mono}
 use lib.Bits.{bitAnd, bitOr, and-zero-l, and-comm, and-le-r, and-mask, mask-lt}
@@ -17,23 +17,23 @@ use Rattle.vectors.specs.declared.OutputBit.{OutputBit}
 use Rattle.vectors.specs.Row.{Row, row}
 use Rattle.columns.specs.Settled.{productOf, Formed}
 use Rattle.columns.proofs.ProductMask.{product-formed, product-width, product-below, product-value}
-use Rattle.products.specs.OutputBits.{outputBit, maskBit}
+use Rattle.products.specs.OutputBits.{outputBit, outputMask}
 use Rattle.products.proofs.Outputs.{output-unknown, output-known}
 use Rattle.products.proofs.Unsettled.{known-operands}
 
-pub mask-bit-of : (r : Row) (k : ℕ) (b : OutputBit) (u : ℕ) → b ≡ outputBit r k → u ≡ maskBit b → u ≡ bit (r .mask) k
+pub mask-bit-of : (r : Row) (k : ℕ) (b : OutputBit) (u : ℕ) → b ≡ outputBit r k → u ≡ outputMask b → u ≡ bit (r .mask) k
 mask-bit-of r k b u eb eu =
     eu
-    ∙ ap maskBit eb
+    ∙ ap outputMask eb
     ∙ elim (bit-cases (r .mask) k) [
-      | inr e ↦ ap maskBit (output-unknown r k e) ∙ sym e
+      | inr e ↦ ap outputMask (output-unknown r k e) ∙ sym e
       | inl e ↦ elim (bit-cases (r .value) k) [
-        | inl f ↦ ap maskBit (output-known r k 0 e f) ∙ sym e
-        | inr f ↦ ap maskBit (output-known r k 1 e f) ∙ sym e
+        | inl f ↦ ap outputMask (output-known r k 0 e f) ∙ sym e
+        | inr f ↦ ap outputMask (output-known r k 1 e f) ∙ sym e
       ]
     ]
 
-module _ (w ma va mb vb r p : ℕ) (F : Formed w ma va mb vb) (e : p ≡ va * vb % 2 ^ 32)
+module _ (w ma va mb vb r p : ℕ) (F : Formed w ma va mb vb) (hr : r < 2 ^ 32) (e : p ≡ va * vb % 2 ^ 32)
     (h : (k : ℕ) → k < w → bit r k ≡ bit (productOf w ma va mb vb .mask) k) where
   abbrev q : Row
   q = productOf w ma va mb vb
@@ -44,14 +44,14 @@ module _ (w ma va mb vb r p : ℕ) (F : Formed w ma va mb vb) (e : p ≡ va * vb
   masks : m ≡ q .mask
   masks = bit-ext w m (q .mask) (mask-lt r w) (product-below w ma va mb vb) (λ k l. ap (λ (x : ℕ). bit x k) (and-mask r w) ∙ bit-mod r w k l ∙ h k l)
 
-  value-bit : (k : ℕ) → k < w → bit (bitAnd p (bitAnd (2 ^ 32 - 1 - m) (2 ^ w - 1))) k ≡ bit (q .value) k
+  value-bit : (k : ℕ) → k < w → bit (bitAnd p (bitAnd (2 ^ 32 - 1 - r) (2 ^ w - 1))) k ≡ bit (q .value) k
   value-bit k l =
       let o = F .most in
-      let a = bit-and p (bitAnd (2 ^ 32 - 1 - m) (2 ^ w - 1)) k in
-      let b = bit-and (2 ^ 32 - 1 - m) (2 ^ w - 1) k in
-      let c = bit-complement 32 m k (lt-of-lt-of-le (mask-lt r w) (pow-mono o)) (omega arith) in
+      let a = bit-and p (bitAnd (2 ^ 32 - 1 - r) (2 ^ w - 1)) k in
+      let b = bit-and (2 ^ 32 - 1 - r) (2 ^ w - 1) k in
+      let c = bit-complement 32 r k hr (omega arith) in
       let d = bit-ones w k l in
-      let i = ap (λ (x : ℕ). bit x k) masks in
+      let i = h k l in
       let j = bit-lt p k in
       elim (bit-cases (q .mask) k) [
         | inr y ↦ let z = product-formed w ma va mb vb .apart k y in omega arith
@@ -61,28 +61,27 @@ module _ (w ma va mb vb r p : ℕ) (F : Formed w ma va mb vb) (e : p ≡ va * vb
             omega arith
       ]
 
-  values : bitAnd p (bitAnd (2 ^ 32 - 1 - m) (2 ^ w - 1)) ≡ q .value
+  values : bitAnd p (bitAnd (2 ^ 32 - 1 - r) (2 ^ w - 1)) ≡ q .value
   values =
-      bit-ext w (bitAnd p (bitAnd (2 ^ 32 - 1 - m) (2 ^ w - 1))) (q .value)
-      (lt-of-le-of-lt (and-le-r p (bitAnd (2 ^ 32 - 1 - m) (2 ^ w - 1))) (mask-lt (2 ^ 32 - 1 - m) w))
+      bit-ext w (bitAnd p (bitAnd (2 ^ 32 - 1 - r) (2 ^ w - 1))) (q .value)
+      (lt-of-le-of-lt (and-le-r p (bitAnd (2 ^ 32 - 1 - r) (2 ^ w - 1))) (mask-lt (2 ^ 32 - 1 - r) w))
       (subst (λ (n : ℕ). q .value < 2 ^ n) (product-width w ma va mb vb) (product-formed w ma va mb vb .value-below)) value-bit
 
-  pub planes-of : (ones : ℕ) → ones ≡ 2 ^ w - 1 → row w (bitAnd r ones) (bitAnd p (bitAnd (2 ^ 32 - 1 - bitAnd r ones) ones)) ≡ q
+  pub planes-of : (ones : ℕ) → ones ≡ 2 ^ w - 1 → row w (bitAnd r ones) (bitAnd p (bitAnd (2 ^ 32 - 1 - r) ones)) ≡ q
   planes-of ones f =
-      ap (λ (x : ℕ). row w (bitAnd r x) (bitAnd p (bitAnd (2 ^ 32 - 1 - bitAnd r x) x))) f
+      ap (λ (x : ℕ). row w (bitAnd r x) (bitAnd p (bitAnd (2 ^ 32 - 1 - r) x))) f
       ∙ (λ ι. record { width = sym (product-width w ma va mb vb) ι; mask = masks ι; value = values ι })
 
 pub planes-known : (w ma va mb vb p ones : ℕ) → Formed w ma va mb vb → p ≡ va * vb % 2 ^ 32 → ones ≡ 2 ^ w - 1 → bitOr ma mb ≡ 0
     → row w 0 (bitAnd p ones) ≡ productOf w ma va mb vb
 planes-known w ma va mb vb p ones F e f z =
-    ap₂ (row w) (sym none) (ap (bitAnd p) (sym all)) ∙ planes-of w ma va mb vb 0 p F e (known-operands w ma va mb vb F z) ones f
+    ap₂ (row w) (sym none) (ap (bitAnd p) (sym all)) ∙ planes-of w ma va mb vb 0 p F (omega arith) e (known-operands w ma va mb vb F z) ones f
   where
     none : bitAnd 0 ones ≡ 0
     none = and-zero-l ones
 
-    all : bitAnd (2 ^ 32 - 1 - bitAnd 0 ones) ones ≡ ones
+    all : bitAnd (2 ^ 32 - 1) ones ≡ ones
     all =
-        ap (λ (x : ℕ). bitAnd (2 ^ 32 - 1 - x) ones) none
-        ∙ and-comm (2 ^ 32 - 1) ones
+        and-comm (2 ^ 32 - 1) ones
         ∙ and-mask ones 32
         ∙ mod-eq-of-lt (let x = F .most in let y : 2 ^ w ≤ 2 ^ 32 = pow-mono {j = 32} x in omega arith)

@@ -13,7 +13,7 @@ use Rattle.products.specs.Factors.{lowRow}
 use Rattle.products.specs.Rule.{DoublyUnknown}
 use Rattle.products.proofs.SetBits.{set-at, set-other}
 use Rattle.products.proofs.Flips.{SumLe, le-trans}
-use Rattle.products.proofs.Extremes.{Moves, Like, Unlike, lowers-both, raises-both}
+use Rattle.products.proofs.ExtremeBits.{Moves, Like, Unlike, lowers-both, raises-both}
 use Rattle.products.proofs.LonePair.{pair-least, pair-greatest}
 
 abbrev pub Known : ℕ → ℕ → ℕ → ℕ → Type 0

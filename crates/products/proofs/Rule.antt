@@ -17,12 +17,12 @@ use Rattle.vectors.proofs.Rows.{covers-value}
 use Rattle.operations.specs.Arithmetic.{opMul}
 use Rattle.operations.specs.Result.{resultOf}
 use Rattle.products.specs.OutputBits.{outputBit}
-use Rattle.products.specs.Column.{termsBelow, onePairs, columnFloor, modTwo, bitOfFloors}
+use Rattle.products.specs.ColumnSum.{termsBelow, onePairs, columnFloor, modTwo, bitOfFloors}
 use Rattle.products.specs.Rule.{DoublyUnknown, Least, Greatest}
 use Rattle.products.proofs.TwoPairs.{theorem-4}
 use Rattle.products.proofs.SetBits.{set-other, set-covers}
 use Rattle.products.proofs.Flips.{SumLe}
-use Rattle.products.proofs.Walks.{same-bit, floors-differ}
+use Rattle.products.proofs.FloorSteps.{same-bit, floors-differ}
 use Rattle.products.proofs.Floors.{sums-of-le, same-of-floor, floor-of-same, floor-bit, same-floors, other-floors}
 use Rattle.products.proofs.Outputs.{product-unknown, product-known}
 

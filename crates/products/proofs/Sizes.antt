@@ -6,7 +6,7 @@ use lib.Pow.{pow-mono}
 use lib.Signed.{mag}
 use Rattle.bits.specs.Bit.{bit}
 use Rattle.bits.proofs.Bits.{bit-lt}
-use Rattle.products.specs.Column.{sum, termsBelow, onePairs, columnSum}
+use Rattle.products.specs.ColumnSum.{sum, termsBelow, onePairs, columnSum}
 use Rattle.products.specs.Factors.{lowRow}
 use Rattle.products.proofs.LowRows.{low-row-lt}
 use Rattle.products.proofs.Columns.{lower, pair, terms-by-rows, pairs-by-rows}

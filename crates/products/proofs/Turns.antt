@@ -17,7 +17,7 @@ use mir.Syntax.{w64}
 use Rattle.bits.specs.Bit.{bit}
 use Rattle.bits.proofs.Bits.{bit-lt}
 use Rattle.bits.proofs.Shifts.{bit-mod}
-use Rattle.products.specs.Column.{termsBelow, onePairs, columnSum}
+use Rattle.products.specs.ColumnSum.{termsBelow, onePairs, columnSum}
 use Rattle.products.specs.Factors.{lowRow}
 use Rattle.products.proofs.Columns.{product-parts, terms-bits, pairs-bits}
 use Rattle.bits.proofs.LowestBit.{lowest, lowest-below, clear-at, clear-other}

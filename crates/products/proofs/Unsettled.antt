@@ -1,12 +1,13 @@
 -- The unknown columns put together from those that plain products settle and those that are worked out. Assumes nothing.
 --   Worked m u found rest   of the columns in u, those in rest are left; found has the unknown ones of the others, m being the product's mask
---   granted-word, granted-below   what `unknown_among` takes for granted of each column in u
+--   granted-word, granted-part, granted-below   what `unknown_among` takes for granted of each column in u
+--   low-or-worked           .. from those below a cut and the others
 --   settled-or-worked       the unknown columns, from both
 --   known-operands          no column is unknown if no bit of an operand is
-use mathlib.Core.Path.{_≡_, sym, ap, _∙_}
+use mathlib.Core.Path.{_≡_, sym, ap, ap₂, _∙_}
 use mathlib.Core.Logic.{_≢_, inl, inr}
-use Prim.Native.Nat.{ℕ, zero, suc, _-_, _*_, _^_, _<_, min, max}
-use native.Mathlib.Nat.{one-mul}
+use Prim.Native.Nat.{ℕ, zero, suc, _-_, _*_, _^_, _≤_, _<_, min, max}
+use native.Mathlib.Nat.{one-mul, lt-of-le-of-lt}
 use native.Mathlib.Decide.{decLt, ℕ-discrete}
 use native.Mathlib.Omega.{arith}
 use lib.Bits.{bitAnd, bitOr, or-add-and, or-lt, and-le-l, and-le-r, and-lt}
@@ -15,6 +16,7 @@ use Rattle.bits.specs.Bit.{bit}
 use Rattle.bits.proofs.Bits.{bit-lt, bit-cases, bit-and, bit-or, bit-above, bit-ext, bit-of-zero}
 use Rattle.bits.proofs.Constants.{bit-pow, bit-pow-other, bit-ones, bit-complement}
 use Rattle.bits.proofs.Numbers.{below-of-bits}
+use Rattle.bits.proofs.Words.{bit-clear}
 use Rattle.bits.proofs.LowestBit.{lowest, clear-at, clear-other}
 use Rattle.vectors.specs.Row.{row}
 use Rattle.vectors.proofs.BestLaws.{known-covers}
@@ -88,6 +90,9 @@ module _ (ma va mb vb : ℕ) where
     | inr e ↦ let g = M k e in absurd (omega (arith, g .most, g .below))
   ])
 
+  pub granted-part : (n x : ℕ) → Marks (Granted ma va mb vb) n → Marks (Granted ma va mb vb) (bitAnd n x)
+  granted-part n x M k e = M k (let d = bit-and n x k in let l = bit-lt n k in omega arith)
+
   pub granted-below : (w n : ℕ) → Formed w ma va mb vb → n < 2 ^ w → Marks (Granted ma va mb vb) n
   granted-below w n F h k e =
       record {
@@ -97,6 +102,31 @@ module _ (ma va mb vb : ℕ) where
         first = F .first;
         second = F .second;
       }
+
+-- ---- the columns below a cut and the others
+
+module _ (w u low m : ℕ) (o : w ≤ 32) (h : u < 2 ^ w) (hl : low < 2 ^ 32) where
+  either-part : (k : ℕ) → max (min (min (bit u k) (bit low k)) (bit m k)) (min (min (bit u k) (1 - bit low k)) (bit m k)) ≡ min (bit u k) (bit m k)
+  either-part k = elim (bit-cases low k) [
+    | inl x ↦ let z = bit-lt u k in both 0 (bit u k) (omega arith) (omega arith) ∙ omega arith
+    | inr x ↦ let z = bit-lt u k in both (bit u k) 0 (omega arith) (omega arith) ∙ omega arith
+  ]
+    where
+      both : (x y : ℕ) → min (bit u k) (bit low k) ≡ x → min (bit u k) (1 - bit low k) ≡ y
+          → max (min (min (bit u k) (bit low k)) (bit m k)) (min (min (bit u k) (1 - bit low k)) (bit m k)) ≡ max (min x (bit m k)) (min y (bit m k))
+      both x y f g = ap₂ (λ (s t : ℕ). max (min s (bit m k)) (min t (bit m k))) f g
+
+  pub low-or-worked : (l r : ℕ) → l ≡ bitAnd (bitAnd u low) m → r ≡ bitAnd (bitAnd u (2 ^ 32 - 1 - low)) m → bitOr l r ≡ bitAnd u m
+  low-or-worked l r e f =
+      bit-ext w (bitOr l r) (bitAnd u m) (or-lt w l r (omega (arith, part low)) (omega (arith, part (2 ^ 32 - 1 - low)))) (lt-of-le-of-lt (and-le-l u m) h) (λ k i.
+      bit-or l r k
+      ∙ ap₂ max (ap (λ (n : ℕ). bit n k) e ∙ bit-and (bitAnd u low) m k ∙ ap (λ (x : ℕ). min x (bit m k)) (bit-and u low k))
+      (ap (λ (n : ℕ). bit n k) f ∙ bit-and (bitAnd u (2 ^ 32 - 1 - low)) m k ∙ ap (λ (x : ℕ). min x (bit m k)) (bit-clear 32 u low k hl (omega arith)))
+      ∙ either-part k
+      ∙ sym (bit-and u m k))
+    where
+      part : (x : ℕ) → bitAnd (bitAnd u x) m < 2 ^ w
+      part x = lt-of-le-of-lt (and-le-l (bitAnd u x) m) (lt-of-le-of-lt (and-le-l u x) h)
 
 -- ---- what is settled and what is not
 

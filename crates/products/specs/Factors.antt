@@ -16,7 +16,7 @@ use Rattle.bits.specs.Bit.{digit}
 use Rattle.bits.specs.Reversed.{reversed}
 use Rattle.vectors.specs.declared.OutputBit.{OutputBit}
 use Rattle.products.specs.declared.factors.Extremes.{Extremes}
-use Rattle.products.specs.Column.{columnFloor, bitOfFloors}
+use Rattle.products.specs.ColumnSum.{columnFloor, bitOfFloors}
 
 unfoldable pub andNot : ℕ → ℕ → ℕ
 andNot x y = bitXor x (bitAnd x y)

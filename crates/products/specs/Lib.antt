@@ -1,6 +1,6 @@
 -- The definitions of `products`.
 pub mod OutputBits
 pub mod Granted
-pub mod Column
+pub mod ColumnSum
 pub mod Factors
 pub mod Rule

@@ -1,6 +1,6 @@
 -- One bit of a vector as an answer (01, "Vectors and rows": mask bit 1 means unknown, else the value bit is the bit).
 --   outputBit r k   bit k of the vector r: unknown, known as 1, or known as 0
---   maskBit b       the mask bit of an answer
+--   outputMask b       the mask bit of an answer
 use mathlib.Core.Bool.{cond}
 use Prim.Native.Nat.{ℕ}
 use Rattle.bits.specs.Bit.{isSet}
@@ -13,7 +13,7 @@ unfoldable pub outputBit : Row → ℕ → OutputBit
 outputBit r k = cond (isSet (r .mask) k) Unknown (cond (isSet (r .value) k) One Zero)
 
 -- the same read the other way
-abbrev pub maskBit : OutputBit → ℕ
-maskBit Zero = 0
-maskBit One = 0
-maskBit Unknown = 1
+abbrev pub outputMask : OutputBit → ℕ
+outputMask Zero = 0
+outputMask One = 0
+outputMask Unknown = 1

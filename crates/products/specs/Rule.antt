@@ -7,7 +7,7 @@ use Prim.Native.Nat.{ℕ, _-_, _≤_}
 use lib.Signed.{_≤ℤ_}
 use Rattle.bits.specs.Bit.{bit}
 use Rattle.vectors.specs.Row.{Row, Covers}
-use Rattle.products.specs.Column.{columnSum}
+use Rattle.products.specs.ColumnSum.{columnSum}
 
 pub record DoublyUnknown (k ma mb i : ℕ) : Type 0 where
   pub within : i ≤ k

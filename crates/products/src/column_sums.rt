@@ -3,7 +3,7 @@ ghost use mathlib.Core.Path.{_≡_};
 ghost use Prim.Native.Nat.{_*_, _-_, _^_, _≤_, _<_};
 ghost use lib.IntN.{pos, _-ℤ_};
 ghost use Rattle.bits.specs.Bit.{bit};
-ghost use Rattle.products.specs.Column.{columnSum, columnFloor, bitOfFloors};
+ghost use Rattle.products.specs.ColumnSum.{columnSum, columnFloor, bitOfFloors};
 ghost use Rattle.products.specs.Factors.{lowRow};
 use bits::width_mask;
 use vectors::OutputBit;

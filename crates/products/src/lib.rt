@@ -9,13 +9,16 @@ ghost use Rattle.vectors.specs.Row.{row, WellFormed};
 ghost use Rattle.operations.specs.Arithmetic.{opMul};
 ghost use Rattle.operations.specs.Result.{resultOf, Ready};
 ghost use Rattle.columns.specs.Settled.{productOf, Formed, Marks};
-ghost use Rattle.products.specs.OutputBits.{outputBit, maskBit};
+ghost use Rattle.products.specs.OutputBits.{outputBit, outputMask};
 ghost use Rattle.products.specs.Granted.{Granted};
 use bits::FourWords;
 use bits::reverse_words;
 use bits::width_mask;
 use columns::choices::by_every_choice;
 use columns::known_columns;
+use columns::low::cut;
+use columns::low::unknown_low;
+use columns::ones_below;
 use columns::product;
 use columns::witnesses::unknown_columns;
 use factors::extreme_factors;
@@ -29,7 +32,7 @@ mod column_sums; // column_sums.rt: column sums, held as i64
 mod factors; // factors.rt: the factors at which the column sum is least and greatest
 
 // So many unknown bits, in both operands together, are tried in every choice.
-const FEW: u32 = 6;
+const EXHAUSTIVE_LIMIT: u32 = 5;
 
 // Bit k of the product, with the operands' reversed words. Two pairs of column k unknown on both sides make the bit unknown; a lone one has its
 // bits set first.
@@ -60,7 +63,7 @@ pub fn product_bit(ma: u32, va: u32, mb: u32, vb: u32, k: u32) -> OutputBit
 }
 
 fn mask_bit(b: OutputBit) -> u32
-    ensures { λ r. ⌜ r ≡ maskBit b ⌝ }
+    ensures { λ r. ⌜ r ≡ outputMask b ⌝ }
 {
     match b {
         OutputBit::Zero => 0,
@@ -93,18 +96,39 @@ fn unknown_among(unsettled: u32, ma: u32, va: u32, mb: u32, vb: u32) -> u32
     found
 }
 
+// The same, with those below the cut settled together, by the few unknown bits there. Where none or all of them stand below it, one way is enough:
+// so the routine for one column is called at two places, and stays a function of its own beside the rest.
+fn unknown_open(unsettled: u32, ma: u32, va: u32, mb: u32, vb: u32) -> u32
+    requires { ⌜ Marks (Granted ma va mb vb) unsettled ⌝ }
+    ensures { λ r. ⌜ ((w : ℕ) → Formed w ma va mb vb → unsettled < 2 ^ w → r ≡ bitAnd unsettled (productOf w ma va mb vb .mask)) ⌝ }
+{
+    if unsettled == 0 {
+        return 0;
+    }
+    let low = ones_below(cut(ma, mb));
+    if unsettled & low == 0 {
+        return unknown_among(unsettled, ma, va, mb, vb);
+    }
+    let found = unknown_low(unsettled, low, ma, va, mb, vb);
+    let rest = unsettled & !low;
+    if rest == 0 {
+        return found;
+    }
+    found | unknown_among(rest, ma, va, mb, vb)
+}
+
 // The columns below the width that are unknown. Few unknown bits are tried in every choice; else the columns that plain products do not settle
 // are worked out.
 fn unknown_below(w: u32, ma: u32, va: u32, mb: u32, vb: u32) -> u32
     requires { ⌜ (1 ≤ w) × Formed w ma va mb vb ⌝ }
     ensures { λ r. ⌜ ((k : ℕ) → k < w → bit r k ≡ bit (productOf w ma va mb vb .mask) k) ⌝ }
 {
-    if u32::count_ones(ma) + u32::count_ones(mb) <= FEW {
+    if u64::count_ones((ma as u64) | ((mb as u64) << 32)) <= EXHAUSTIVE_LIMIT {
         return by_every_choice(ma, va, mb, vb);
     }
     let seen = unknown_columns(ma, va, mb, vb);
     let unsettled = !(seen | known_columns(ma, va, mb, vb)) & width_mask(w);
-    seen | unknown_among(unsettled, ma, va, mb, vb)
+    seen | unknown_open(unsettled, ma, va, mb, vb)
 }
 
 // The product's vector: where no two choices disagree, the bit is that of the values' product.
@@ -119,9 +143,9 @@ pub fn mul(w: u32, ma: u32, va: u32, mb: u32, vb: u32) -> Vector
         };
     }
     let ones = width_mask(w);
-    let mask = unknown_below(w, ma, va, mb, vb) & ones;
+    let unknown = unknown_below(w, ma, va, mb, vb);
     Vector {
-        mask: mask,
-        value: product(va, vb) & (!mask & ones),
+        mask: unknown & ones,
+        value: product(va, vb) & (!unknown & ones),
     }
 }

@@ -1,3 +1,4 @@
+-- The laws and proofs of `rifflerleek`.
 pub mod Numbered
 pub mod Runs
 pub mod Starts

@@ -10,7 +10,7 @@ use Rattle.checks.proofs.Verdicts.{passed-of-done, done-of-passed}
 use Rattle.tables.specs.Demand.{Demand3}
 use Rattle.tables.specs.Run.{Ran, ranAs, runOf}
 use Rattle.tables.specs.declared.RunAnswer.{RunAnswer}
-use Rattle.tables.specs.Meant.{held, runMeant, ran}
+use Rattle.tables.specs.Model.{held, runModel, ran}
 use Rattle.rifflerleek.specs.declared.Answer.{Answer as HostAnswer}
 use Rattle.rifflerleek.specs.Host.{numberAnswer, outcome, hostRan}
 use Rattle.rifflerleek.proofs.Numbered.{run-refused}
@@ -33,11 +33,11 @@ module _ (t : Table) (first last : ℕ) where
   zero-done (refused n i) e z = let h = run-refused t first last n i (sym e) in absurd (omega arith)
 
   -- r: run's answer, found to be s; h: what the host is handed for it
-  pub run-hosted : (r s : RunAnswer) (h : HostAnswer) (masks values : List ℕ) → r ≡ s → h ≡ numberAnswer (runMeant s) → ran r masks values ≡ runOf t first last
-      → (runMeant r ≡ done last → Demand3 t first last (held masks values))
+  pub run-hosted : (r s : RunAnswer) (h : HostAnswer) (masks values : List ℕ) → r ≡ s → h ≡ numberAnswer (runModel s) → ran r masks values ≡ runOf t first last
+      → (runModel r ≡ done last → Demand3 t first last (held masks values))
       → (outcome h (held masks values) ≡ hostRan (runOf t first last)) × (h .refusal ≡ 0 → Demand3 t first last (held masks values))
   run-hosted r s h masks values g e f d =
       let k = ap (λ (x : RunAnswer). ran x masks values) (sym g) ∙ f in (
         ap (λ (a : HostAnswer). outcome a (held masks values)) e ∙ ap hostRan k,
-        λ z. d (ap runMeant g ∙ zero-done (runMeant s) (ap (λ (x : Ran). x .answer) k ∙ run-answer) (ap (λ (a : HostAnswer). a .refusal) (sym e) ∙ z)),
+        λ z. d (ap runModel g ∙ zero-done (runModel s) (ap (λ (x : Ran). x .answer) k ∙ run-answer) (ap (λ (a : HostAnswer). a .refusal) (sym e) ∙ z)),
       )

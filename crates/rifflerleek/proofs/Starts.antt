@@ -8,7 +8,7 @@ use lib.Seq.{length-take-le}
 use Rattle.grammar.specs.Words.{lf, tab}
 use Rattle.grammar.specs.Cut.{Ends, between, partEnds, within, fieldEnds, Part, fieldOf}
 use Rattle.grammar.proofs.Parts.{part-within}
-use Rattle.rifflerleek.specs.Host.{resultOf, endsAnswer}
+use Rattle.rifflerleek.specs.Host.{hostResult, endsAnswer}
 
 between-length : (bs : List ℕ) (e : Ends) → e .start ≤ e .end → e .end ≤ length bs → length (between bs e) ≡ e .end - e .start
 between-length bs e h k = length-take-le (e .end - e .start) (drop (e .start) bs) (omega (arith, length-drop (e .start) bs))
@@ -50,9 +50,9 @@ module _ (text : List ℕ) (line field : ℕ) (l found : List ℕ) (s t : ℕ)
       (part-within tab field (between text lineEnds) .1) in
       omega (arith, k, end-is)
 
-  pub ends-found : resultOf (s + t) (s + t + length found) ≡ endsAnswer (fieldEnds text line field)
+  pub ends-found : hostResult (s + t) (s + t + length found) ≡ endsAnswer (fieldEnds text line field)
   unfolding fieldEnds
-  ends-found = let b : s + t ≡ whole .start = omega (arith, hs, inner) in λ ι. resultOf (b ι) (end-is ι)
+  ends-found = let b : s + t ≡ whole .start = omega (arith, hs, inner) in λ ι. hostResult (b ι) (end-is ι)
 
 pub bytes-found : (text part : Part) (line field : ℕ) → part ≡ fieldOf text line field → part .bytes ≡ between (text .bytes) (fieldEnds (text .bytes) line field)
 unfolding fieldOf

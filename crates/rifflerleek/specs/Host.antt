@@ -1,5 +1,5 @@
 -- What a host program is handed: the paper's answer as one struct, and what the call leaves (01, "Calls": "the result, or a refusal holding its number and its place").
---   resultOf a b      a result of two numbers: refusal 0;   refusalOf n p   a refusal: its number and its place
+--   hostResult a b      a result of two numbers: refusal 0;   hostRefusal n p   a refusal: its number and its place
 --   numberAnswer      of run, size and write, whose result is one number;   countAnswer   of count;   countsAnswer   of read
 --   endsAnswer        of field: where the part begins and ends
 --   Outcome L         an answer, and what the call leaves in the slices;   outcome r left   these of a host
@@ -13,29 +13,29 @@ use Rattle.grammar.specs.Cut.{Ends}
 use Rattle.texts.specs.Calls.{Written, Counts, ReadBack}
 use Rattle.rifflerleek.specs.declared.Answer.{Answer as HostAnswer}
 
-abbrev pub resultOf : ℕ → ℕ → HostAnswer
-resultOf a b = record { refusal = 0; place = 0; first = a; second = b }
+abbrev pub hostResult : ℕ → ℕ → HostAnswer
+hostResult a b = record { refusal = 0; place = 0; first = a; second = b }
 
-abbrev pub refusalOf : ℕ → ℕ → HostAnswer
-refusalOf number place = record { refusal = number; place = place; first = 0; second = 0 }
+abbrev pub hostRefusal : ℕ → ℕ → HostAnswer
+hostRefusal number place = record { refusal = number; place = place; first = 0; second = 0 }
 
 abbrev pub numberAnswer : Answer ℕ → HostAnswer
-numberAnswer (done n) = resultOf n 0
-numberAnswer (refused number place) = refusalOf number place
+numberAnswer (done n) = hostResult n 0
+numberAnswer (refused number place) = hostRefusal number place
 
 -- "the unknown bits u of a row, and 2^u"
 abbrev pub countAnswer : Answer Count → HostAnswer
-countAnswer (done c) = resultOf (c .unknown) (c .choices)
-countAnswer (refused number place) = refusalOf number place
+countAnswer (done c) = hostResult (c .unknown) (c .choices)
+countAnswer (refused number place) = hostRefusal number place
 
 -- "answers both counts"
 abbrev pub countsAnswer : Answer Counts → HostAnswer
-countsAnswer (done c) = resultOf (c .rows) (c .records)
-countsAnswer (refused number place) = refusalOf number place
+countsAnswer (done c) = hostResult (c .rows) (c .records)
+countsAnswer (refused number place) = hostRefusal number place
 
 -- "a part of the lent text": by its two ends
 abbrev pub endsAnswer : Ends → HostAnswer
-endsAnswer e = resultOf (e .start) (e .end)
+endsAnswer e = hostResult (e .start) (e .end)
 
 -- ---- with what is left in the slices
 

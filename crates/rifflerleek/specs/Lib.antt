@@ -1,1 +1,2 @@
+-- The definitions of `rifflerleek`.
 pub mod Host

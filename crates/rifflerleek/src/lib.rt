@@ -1,13 +1,13 @@
 // The library for C, C++ and Rust programs: the public calls, exported (01, "Calls").
 ghost use mathlib.Core.Path.{_≡_};
 ghost use mathlib.Core.List.{[]};
-ghost use Rattle.checks.specs.Meant.{lent};
+ghost use Rattle.checks.specs.Model.{lent};
 ghost use Rattle.tables.specs.Demand.{Demand3};
-ghost use Rattle.tables.specs.Meant.{held};
+ghost use Rattle.tables.specs.Model.{held};
 ghost use Rattle.tables.specs.Run.{runOf, countOf};
 ghost use Rattle.grammar.specs.Cut.{fieldEnds};
 ghost use Rattle.texts.specs.Calls.{sizeOf, writeOf, readOf};
-ghost use Rattle.rifflerleek.specs.Host.{resultOf, refusalOf, numberAnswer, countAnswer, endsAnswer, outcome, hostRan, hostWritten, hostRead};
+ghost use Rattle.rifflerleek.specs.Host.{hostResult, hostRefusal, numberAnswer, countAnswer, endsAnswer, outcome, hostRan, hostWritten, hostRead};
 use checks::Refusal;
 use lines::cut::LF;
 use lines::cut::TAB;
@@ -29,7 +29,7 @@ pub struct Answer {
 
 // A result of two numbers.
 fn done(first: usize, second: u64) -> Answer
-    ensures { λ r. ⌜ r ≡ resultOf first second ⌝ }
+    ensures { λ r. ⌜ r ≡ hostResult first second ⌝ }
 {
     Answer {
         refusal: 0,
@@ -41,7 +41,7 @@ fn done(first: usize, second: u64) -> Answer
 
 // A refusal.
 fn refused(why: Refusal) -> Answer
-    ensures { λ r. ⌜ r ≡ refusalOf (why .number) (why .place) ⌝ }
+    ensures { λ r. ⌜ r ≡ hostRefusal (why .number) (why .place) ⌝ }
 {
     Answer {
         refusal: why.number,

@@ -1,4 +1,4 @@
--- The laws of sums, and the proofs of the functions of `sums`.
+-- The laws and proofs of `sums`.
 pub mod CarryIn
 pub mod Covered
 pub mod Complements

@@ -10,7 +10,7 @@ use lib.Pow.{shr-mono}
 use Rattle.bits.specs.Bit.{bit}
 use Rattle.bits.proofs.Bits.{bit-cases}
 use Rattle.bits.proofs.Shifts.{bit-mod}
-use Rattle.vectors.specs.Lists.{Each}
+use Rattle.vectors.specs.Lists.{All}
 use Rattle.vectors.specs.Row.{Row, WellFormed, Covers}
 use Rattle.vectors.specs.Choice.{Chosen}
 use Rattle.vectors.proofs.Rows.{top, covers-value, covers-top}
@@ -24,7 +24,7 @@ pub record Terms (p q : Row) (x y : ℕ) : Type 0 where
 
 pub record AsSum (w c : ℕ) (p q : Row) (left right f : List ℕ → ℕ) (rows : List Row) : Type 0 where
   pub carry-lt : c < 2
-  pub rows-formed : Each WellFormed rows
+  pub rows-formed : All WellFormed rows
   pub left-formed : WellFormed p
   pub right-formed : WellFormed q
   pub left-wide : w ≤ p .width

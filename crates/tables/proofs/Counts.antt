@@ -11,7 +11,7 @@ use Rattle.vectors.specs.Row.{unknowns}
 use Rattle.checks.specs.Check.{Answer, done}
 use Rattle.checks.specs.Table.{Table, rowAt, startOf}
 use Rattle.checks.specs.Checks.{countChecks}
-use Rattle.checks.specs.Meant.{judged}
+use Rattle.checks.specs.Model.{judged}
 use Rattle.checks.proofs.Verdicts.{done-of-passed, passed-of-done}
 use Rattle.checks.proofs.Counts.{row-good}
 use Rattle.tables.specs.Run.{Count, countOf}

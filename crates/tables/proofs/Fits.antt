@@ -7,7 +7,7 @@ use mathlib.Core.Logic.{_≢_}
 use mathlib.Core.List.{List, [], _∷_, map}
 use Prim.Native.Nat.{ℕ, _^_, _<_}
 use lib.ListN.{length}
-use Rattle.vectors.specs.Lists.{Each}
+use Rattle.vectors.specs.Lists.{All}
 use Rattle.operations.specs.Record.{Effect, widthAt, effectOf, effectsOf, rowsNamed, targetWord, kindWord, parameterWord}
 use Rattle.operations.specs.Result.{Below}
 use Rattle.operations.proofs.Bounded.{kind-bounded}
@@ -16,15 +16,15 @@ use Rattle.tables.specs.Step.{Program}
 
 pub record Fit (widths : List ℕ) (e : Effect) : Type 0 where
   pub target-in : e .target < length widths
-  pub operands-in : Each (λ i. i < length widths) (e .operands)
+  pub operands-in : All (λ i. i < length widths) (e .operands)
   pub value-below : (ns : List ℕ) → Below (map (widthAt widths) (e .operands)) ns → e .value ns < 2 ^ widthAt widths (e .target)
 
 abbrev pub DistinctAt : {A : Type 0} → (A → ℕ) → List A → Type 0
 DistinctAt target [] = Unit {0}
-DistinctAt target (a ∷ l) = Each (λ b. target b ≢ target a) l × DistinctAt target l
+DistinctAt target (a ∷ l) = All (λ b. target b ≢ target a) l × DistinctAt target l
 
 pub record FitRecord (widths : List ℕ) (es : List Effect) : Type 0 where
-  pub fit : Each (Fit widths) es
+  pub fit : All (Fit widths) es
   pub distinct : DistinctAt (λ e. e .target) es
 
 abbrev pub FitProgram : Program → Type 0

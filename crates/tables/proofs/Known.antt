@@ -8,9 +8,9 @@ use native.Mathlib.Omega.{arith}
 use lib.Dec.{T}
 use lib.ListN.{getD}
 use Rattle.vectors.specs.Row.{Row, row}
-use Rattle.vectors.proofs.Lists.{each-map, along-map}
+use Rattle.vectors.proofs.Lists.{all-map, pointwise-map}
 use Rattle.vectors.proofs.BestLaws.{best-known}
-use Rattle.operations.specs.Kind.{Kind}
+use Rattle.operations.specs.Kind.{asks, Kind}
 use Rattle.operations.specs.Kinds.{kindOf}
 use Rattle.operations.specs.Record.{kindWord, targetWord, firstWord, secondWord, parameterWord, kindIn, widthAt, rowsNamed, misused, effectOf, effectsOf}
 use Rattle.operations.specs.Result.{Below, arity}
@@ -45,7 +45,7 @@ module _ (t : Table) (A : TablePassed t) (s : ℕ) (h : s < recordCount t) (rows
 
   -- the operands' numbers, the values of fully known rows, are below their widths
   below : Below ws ns
-  below = along-map (λ w n. n < 2 ^ w) (widthAt (t .widths)) (λ i. getD (rows .values) i 0) (λ i l. S .formed i l .value-below) (rowsNamed words) (R .operands-in)
+  below = pointwise-map (λ w n. n < 2 ^ w) (widthAt (t .widths)) (λ i. getD (rows .values) i 0) (λ i l. S .formed i l .value-below) (rowsNamed words) (R .operands-in)
 
   served : (m : Term) → m .kind ≡ kindOf (kindWord words) → ((w p : ℕ) → T (m .serves w p)) → Served m (widthAt (t .widths) (targetWord words)) (parameterWord words) ws ns
   unfolding rowsNamed
@@ -53,9 +53,9 @@ module _ (t : Table) (A : TablePassed t) (s : ℕ) (h : s < recordCount t) (rows
       record {
         count = operands-count (widthAt (t .widths)) (kindIn words) (firstWord words) (secondWord words) (parameterWord words) ∙ ap arity (sym e);
         wide = A .row-passed (targetWord words) (R .target-in) .width-least;
-        widths = each-map (λ w. 1 ≤ w) (widthAt (t .widths)) (λ i l. A .row-passed i l .width-least) (rowsNamed words) (R .operands-in);
+        widths = all-map (λ w. 1 ≤ w) (widthAt (t .widths)) (λ i l. A .row-passed i l .width-least) (rowsNamed words) (R .operands-in);
         below = below;
-        fits = subst (λ (k : Kind). T (k .fits (widthAt (t .widths) (targetWord words)) ws (parameterWord words))) (sym e) (R .widths-fit);
+        fits = subst (λ (k : Kind). T (asks (k .rule) (widthAt (t .widths) (targetWord words)) ws (parameterWord words))) (sym e) (R .widths-fit);
         parameter = subst (λ (k : Kind). T (not (misused (k .use-p) (parameterWord words)))) (sym e) (R .parameter-used);
         serves = all _ _;
       }
@@ -68,7 +68,7 @@ module _ (t : Table) (A : TablePassed t) (s : ℕ) (h : s < recordCount t) (rows
       step-targets (t .widths) rows S (effectsOf (t .widths) words) (effects-fit (t .widths) words R) .0
       ∙ best-known (widthAt (t .widths) (targetWord words)) (effectOf (t .widths) words .value) (operandRows (t .widths) rows (effectOf (t .widths) words))
       (operands-formed (t .widths) rows S (effectOf (t .widths) words) (effect-fits (t .widths) words R))
-      (each-map (λ r. r .mask ≡ 0) (rowAt (t .widths) rows) (λ i e. e) (rowsNamed words) K)
+      (all-map (λ r. r .mask ≡ 0) (rowAt (t .widths) rows) (λ i e. e) (rowsNamed words) K)
       (subst (λ (l : List ℕ). effectOf (t .widths) words .value l < 2 ^ widthAt (t .widths) (targetWord words)) (sym values) (effect-fits (t .widths) words R .value-below ns below))
       ∙ ap (λ (l : List ℕ). row (widthAt (t .widths) (targetWord words)) 0 (effectOf (t .widths) words .value l)) values
     where

@@ -1,3 +1,4 @@
+-- The laws and proofs of `tables`.
 pub mod Fits
 pub mod Put
 pub mod PutAll

@@ -6,7 +6,7 @@ use Rattle.checks.specs.Check.{Answer, done, refused}
 use Rattle.checks.specs.Table.{State, Table, startOf}
 use Rattle.checks.specs.Checks.{runChecks}
 use Rattle.checks.specs.Accepted.{Accepted}
-use Rattle.checks.specs.Meant.{judged}
+use Rattle.checks.specs.Model.{judged}
 use Rattle.checks.proofs.Accepts.{accepted-of-answer}
 use Rattle.checks.proofs.Verdicts.{refused-any}
 use Rattle.tables.specs.Step.{after}

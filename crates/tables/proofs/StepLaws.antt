@@ -1,47 +1,41 @@
 -- A record's step as the code makes it: the rows that its words name, the kernel's result, and the one row written. Assumes nothing.
-use mathlib.Core.Path.{_≡_, refl, sym, ap, _∙_, subst, subst₂}
+use mathlib.Core.Path.{_≡_, refl, sym, ap, _∙_, subst, subst₂, transport}
 use mathlib.Core.Bool.{Bool, true, false, _&&_}
 use mathlib.Core.List.{List, [], _∷_, map}
 use Prim.Native.Nat.{ℕ, _≤_, _<_}
 use lib.Dec.{T, eqb, eqb→eq}
 use lib.ListN.{length, getD, set}
-use Rattle.bits.proofs.Bools.{T-right}
-use Rattle.vectors.specs.Lists.{Each}
+use Rattle.bits.proofs.Bools.{T-left, T-right}
+use Rattle.vectors.specs.Lists.{All}
 use Rattle.vectors.specs.Row.{Row, row, WellFormed}
 use Rattle.vectors.specs.Best.{best}
-use Rattle.vectors.proofs.Lists.{each-map}
-use Rattle.operations.specs.Kind.{Use, asRow, asNumber, unused, Kind}
-use Rattle.operations.specs.Bitwise.{opCopy, opNot, opAnd, opOr, opXor}
-use Rattle.operations.specs.Moves.{opShl, opLshr, opAshr, opRotl, opExtract, opConcat, opZext, opSext}
-use Rattle.operations.specs.Arithmetic.{opAdd, opSub, opNeg, opMul, opEq, opUlt, opSlt, opIte}
-use Rattle.operations.specs.Kinds.{kinds, kindOf}
+use Rattle.vectors.proofs.Lists.{all-map}
+use Rattle.operations.specs.Kind.{asks, Use, asRow, asNumber, unused, Rule}
+use Rattle.operations.specs.Kinds.{isKind, kindOf}
 use Rattle.operations.specs.Record.{widthAt, used, operands, rowsNamed, effectOf, effectsOf}
 use Rattle.operations.specs.Result.{widthsOf, resultOf, Ready}
-use Rattle.operations.proofs.Lookup.{each-kind, kind-below, below-kind}
+use Rattle.operations.proofs.Sound.{isRow, row-is, suits, first-is-row, rule-suits, condition-chosen}
 use Rattle.checks.specs.Limits.{widthLimit}
 use Rattle.checks.specs.Table.{State, rowAt}
-use Rattle.checks.proofs.Rules.{first-is-row}
 use Rattle.tables.specs.Step.{result, step}
-use Rattle.tables.specs.Coded.{usedRow, StepReady}
+use Rattle.tables.specs.Encoding.{usedRow, StepReady}
 use Rattle.tables.proofs.Lists.{map-map, operands-count}
 
 -- ---- a condition row is one bit wide (refusal 9)
 
-abbrev isRow : Use → Bool
-isRow asRow = true
-isRow asNumber = false
-isRow unused = false
-
-abbrev OneBit : Kind → Type 0
-OneBit k = T (isRow (k .use-p)) → (widths : List ℕ) (wt a b p : ℕ) → T (k .fits wt (map (widthAt widths) (operands k a b p)) p) → widthAt widths p ≡ 1
-
-one-bit : Each OneBit kinds
-unfolding kinds opCopy opNot opAnd opOr opXor opShl opLshr opAshr opRotl opExtract opConcat opZext opSext opAdd opSub opNeg opMul opEq opUlt opSlt opIte
-one-bit = (λ r. absurd r, (λ r. absurd r, (λ r. absurd r, (λ r. absurd r, (λ r. absurd r, (λ r. absurd r, (λ r. absurd r, (λ r. absurd r, (λ r. absurd r, (λ r. absurd r, (λ r. absurd r, (λ r. absurd r, (λ r. absurd r, (λ r. absurd r, (λ r. absurd r, (λ r. absurd r, (λ r. absurd r, (λ r. absurd r, (λ r. absurd r, (λ r. absurd r, (λ r ws wt a b p t. eqb→eq (widthAt ws p) 1 (T-right (eqb wt (widthAt ws a) && eqb wt (widthAt ws b)) (eqb (widthAt ws p) 1) t), tt)))))))))))))))))))))
+one-bit : (n : ℕ) → T (isKind n) → T (isRow (kindOf n .use-p)) → (widths : List ℕ) (wt a b p : ℕ)
+    → T (asks (kindOf n .rule) wt (map (widthAt widths) (operands (kindOf n) a b p)) p) → widthAt widths p ≡ 1
+one-bit n h u widths wt a b p t =
+    let r = condition-chosen n h u in
+    let s : T (isRow (kindOf n .use-b) && isRow (kindOf n .use-p)) = subst (λ (q : Rule). T (suits q (kindOf n .use-b) (kindOf n .use-p))) r (rule-suits n h) in
+    let eb = row-is (kindOf n .use-b) (T-left (isRow (kindOf n .use-b)) (isRow (kindOf n .use-p)) s) in
+    let f : T (eqb wt (widthAt widths a) && eqb wt (widthAt widths b) && eqb (widthAt widths p) 1) =
+    transport (λ ι. T (asks (r ι) wt (map (widthAt widths) (used (first-is-row n h ι) a (used (eb ι) b (used (row-is (kindOf n .use-p) u ι) p [])))) p)) t in
+    eqb→eq (widthAt widths p) 1 (T-right (eqb wt (widthAt widths a) && eqb wt (widthAt widths b)) (eqb (widthAt widths p) 1) f)
 
 -- ---- the rows that the words name
 
-used-in : (u : Use) (n word : ℕ) (rest : List ℕ) → 1 ≤ n → Each (λ i. i < n) (used u word rest) → (usedRow u word < n) × Each (λ i. i < n) rest
+used-in : (u : Use) (n word : ℕ) (rest : List ℕ) → 1 ≤ n → All (λ i. i < n) (used u word rest) → (usedRow u word < n) × All (λ i. i < n) rest
 used-in asRow n word rest h e = e
 used-in asNumber n word rest h e = (h, e)
 used-in unused n word rest h e = (h, e)
@@ -66,14 +60,14 @@ module _ (widths : List ℕ) (s : State) (kind t a b p : ℕ) (R : StepReady wid
   abbrev ip : ℕ
   ip = usedRow (kindOf kind .use-p) p
 
-  pub kind-in : kind < 21
-  kind-in = kind-below kind (R .passed .kind-known)
+  pub kind-in : T (isKind kind)
+  kind-in = R .passed .kind-known
 
-  first-part : (usedRow (kindOf kind .use-a) a < length widths) × Each (λ i. i < length widths) (used (kindOf kind .use-b) b (used (kindOf kind .use-p) p []))
+  first-part : (usedRow (kindOf kind .use-a) a < length widths) × All (λ i. i < length widths) (used (kindOf kind .use-b) b (used (kindOf kind .use-p) p []))
   unfolding rowsNamed
   first-part = used-in (kindOf kind .use-a) (length widths) a _ (R .some-row) (R .passed .operands-in)
 
-  second-part : (ib < length widths) × Each (λ i. i < length widths) (used (kindOf kind .use-p) p [])
+  second-part : (ib < length widths) × All (λ i. i < length widths) (used (kindOf kind .use-p) p [])
   second-part = used-in (kindOf kind .use-b) (length widths) b _ (R .some-row) (first-part .1)
 
   pub first-in : a < length widths
@@ -98,7 +92,7 @@ module _ (widths : List ℕ) (s : State) (kind t a b p : ℕ) (R : StepReady wid
     where
       condition : T (isRow (kindOf kind .use-p)) → row 1 (getD (s .masks) ip 0) (getD (s .values) ip 0) ≡ rowAt widths s p
       condition u =
-          let e = sym (each-kind OneBit one-bit kind (below-kind kind kind-in) u widths (widthAt widths t) a b p (R .passed .widths-fit)) in
+          let e = sym (one-bit kind kind-in u widths (widthAt widths t) a b p (R .passed .widths-fit)) in
           let f = used-same (kindOf kind .use-p) p u in
           λ ι. row (e ι) (getD (s .masks) (f ι) 0) (getD (s .values) (f ι) 0)
 
@@ -113,10 +107,10 @@ module _ (widths : List ℕ) (s : State) (kind t a b p : ℕ) (R : StepReady wid
       named =
           record {
             count = operands-count (rowAt widths s) (kindOf kind) a b p;
-            formed = each-map WellFormed (rowAt widths s) (R .fits .formed) (rowsNamed words) (R .passed .operands-in);
+            formed = all-map WellFormed (rowAt widths s) (R .fits .formed) (rowsNamed words) (R .passed .operands-in);
             wide = R .wide t (R .passed .target-in) .0;
-            widths = each-map (λ (r : Row). 1 ≤ r .width) (rowAt widths s) (λ i h. R .wide i h .0) (rowsNamed words) (R .passed .operands-in);
-            fits = subst (λ (l : List ℕ). T (kindOf kind .fits (widthAt widths t) l p)) (sym widths-are) (R .passed .widths-fit);
+            widths = all-map (λ (r : Row). 1 ≤ r .width) (rowAt widths s) (λ i h. R .wide i h .0) (rowsNamed words) (R .passed .operands-in);
+            fits = subst (λ (l : List ℕ). T (asks (kindOf kind .rule) (widthAt widths t) l p)) (sym widths-are) (R .passed .widths-fit);
             parameter = R .passed .parameter-used;
           }
 
@@ -155,7 +149,7 @@ module _ (widths : List ℕ) (s : State) (kind t a b p : ℕ) (R : StepReady wid
         let v = ewb ∙ ap (widthAt widths) ek in
         λ ι. operands (kindOf kind) (row (u ι) (getD (s .masks) (ej ι) 0) (getD (s .values) (ej ι) 0)) (row (v ι) (getD (s .masks) (ek ι) 0) (getD (s .values) (ek ι) 0)) (row 1 (getD (s .masks) (el ι) 0) (getD (s .values) (el ι) 0))
 
-    pub code-ready : (kind < 21) × (wt ≤ widthLimit) × (wa ≤ widthLimit) × Ready (kindOf kind) wt p handed
+    pub code-ready : T (isKind kind) × (wt ≤ widthLimit) × (wa ≤ widthLimit) × Ready (kindOf kind) wt p handed
     code-ready = (
       kind-in,
       subst (λ (x : ℕ). x ≤ widthLimit) (sym target-width) target-wide,

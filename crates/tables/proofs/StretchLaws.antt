@@ -10,12 +10,12 @@ use lib.Seq.{getD-take, getD-drop}
 use Rattle.operations.specs.Record.{effectsOf}
 use Rattle.checks.specs.Table.{State, Table, startOf, recordOf}
 use Rattle.checks.specs.Accepted.{RecordPassed, Accepted}
-use Rattle.checks.specs.Meant.{lent}
+use Rattle.checks.specs.Model.{lent}
 use Rattle.checks.proofs.Naming.{record-words}
 use Rattle.tables.specs.Step.{Program, step, after}
 use Rattle.tables.specs.Run.{programOf}
 use Rattle.tables.specs.Demand.{StateFits}
-use Rattle.tables.specs.Coded.{StepReady, StretchReady}
+use Rattle.tables.specs.Encoding.{StepReady, StretchReady}
 use Rattle.tables.proofs.Points.{after-fits}
 use Rattle.tables.proofs.Demand3.{start-fits}
 

@@ -9,7 +9,7 @@ use mathlib.Core.Logic.{_≢_}
 use mathlib.Core.List.{List, [], _∷_}
 use Prim.Native.Nat.{ℕ, suc, _≤_, _<_}
 use lib.ListN.{length, getD}
-use Rattle.vectors.specs.Lists.{Each}
+use Rattle.vectors.specs.Lists.{All}
 use Rattle.vectors.specs.Row.{WellFormed, Covers, Inside}
 use Rattle.vectors.specs.Best.{Exact}
 use Rattle.operations.specs.Record.{Effect, widthAt, targetWord}
@@ -32,8 +32,8 @@ InsideState widths s t = (i : ℕ) → i < length widths → Inside (rowAt width
 
 -- Each target row is exact and has the fewest unknown bits over free choices from the operand rows just before; no other row has changed.
 pub record After (widths : List ℕ) (es : List Effect) (s t : State) : Type 0 where
-  pub targets : Each (λ e. Exact (widthAt widths (e .target)) (e .value) (operandRows widths s e) (rowAt widths t (e .target))) es
-  pub others : (i : ℕ) → Each (λ e. e .target ≢ i) es → rowAt widths t i ≡ rowAt widths s i
+  pub targets : All (λ e. Exact (widthAt widths (e .target)) (e .value) (operandRows widths s e) (rowAt widths t (e .target))) es
+  pub others : (i : ℕ) → All (λ e. e .target ≢ i) es → rowAt widths t i ≡ rowAt widths s i
 
 -- end: the rows left are those at point last.  points: run from first up to each point is accepted.
 -- start: at point first they are the start rows, as lent.  one-target: a record has one effect, on the row that its word t names.

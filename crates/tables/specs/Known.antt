@@ -6,7 +6,7 @@ use mathlib.Core.Path.{_≡_}
 use mathlib.Core.List.{List, List·Memᴰ, map}
 use Prim.Native.Nat.{ℕ}
 use lib.ListN.{getD}
-use Rattle.vectors.specs.Lists.{Each}
+use Rattle.vectors.specs.Lists.{All}
 use Rattle.vectors.specs.Row.{row}
 use Rattle.operations.specs.Record.{kindIn, targetWord, parameterWord, rowsNamed, widthAt}
 use Rattle.operations.specs.Bitvector.{nat}
@@ -14,7 +14,7 @@ use Rattle.operations.specs.Terms.{Term, terms, vectors}
 use Rattle.checks.specs.Table.{State, rowAt, Table, recordOf}
 
 abbrev pub KnownBefore : Table → ℕ → State → Type 0
-KnownBefore t s rows = Each (λ i. getD (rows .masks) i 0 ≡ 0) (rowsNamed (recordOf t s))
+KnownBefore t s rows = All (λ i. getD (rows .masks) i 0 ≡ 0) (rowsNamed (recordOf t s))
 
 abbrev pub smtNumber : Term → List ℕ → List ℕ → List ℕ → ℕ
 smtNumber m widths words values =

@@ -1,6 +1,7 @@
+-- The definitions of `tables`.
 pub mod Step
 pub mod Run
 pub mod Demand
-pub mod Coded
-pub mod Meant
+pub mod Encoding
+pub mod Model
 pub mod Known

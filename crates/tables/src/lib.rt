@@ -2,7 +2,7 @@
 ghost use mathlib.Core.Path.{_≡_};
 ghost use mathlib.Core.List.{[]};
 ghost use Rattle.checks.specs.Check.{done};
-ghost use Rattle.checks.specs.Meant.{lent};
+ghost use Rattle.checks.specs.Model.{lent};
 ghost use Rattle.tables.specs.Run.{runOf, countOf};
 ghost use Rattle.tables.specs.Demand.{Demand3};
 use checks::Refusal;
@@ -11,7 +11,7 @@ use checks::check_count;
 use checks::check_run;
 use checks::limits::RECORD_WORDS;
 use stepping::step_all;
-ghost use Rattle.tables.specs.Meant.{held, runMeant, ran, countMeant};
+ghost use Rattle.tables.specs.Model.{held, runModel, ran, countModel};
 
 mod stepping; // stepping.rt: what records do to the rows
 
@@ -23,7 +23,7 @@ pub enum CountAnswer {
 
 // How many bits of a row are unknown, and how many numbers it covers.
 pub fn count(width: &[u8], lock: &[u8], mask: &[u32], value: &[u32], row: usize) -> CountAnswer
-    ensures { λ r. ⌜ countMeant r ≡ countOf (lent (now (width .entry)) (now (lock .entry)) (now (mask .entry)) (now (value .entry)) []) row ⌝ }
+    ensures { λ r. ⌜ countModel r ≡ countOf (lent (now (width .entry)) (now (lock .entry)) (now (mask .entry)) (now (value .entry)) []) row ⌝ }
 {
     match check_count(width, lock, mask, value, row) {
         Verdict::Refused(r) => CountAnswer::Refused(r),
@@ -51,7 +51,7 @@ pub fn run(
     last: usize,
 ) -> RunAnswer
     ensures effect { λ r. ⌜ ran r (now (mask .exit)) (now (value .exit)) ≡ runOf (lent (now (width .entry)) (now (lock .entry)) (now (mask .entry)) (now (value .entry)) (now (words .entry))) first last ⌝ }
-    ensures demand3 { λ r. ⌜ (runMeant r ≡ done last → Demand3 (lent (now (width .entry)) (now (lock .entry)) (now (mask .entry)) (now (value .entry)) (now (words .entry))) first last (held (now (mask .exit)) (now (value .exit)))) ⌝ }
+    ensures demand3 { λ r. ⌜ (runModel r ≡ done last → Demand3 (lent (now (width .entry)) (now (lock .entry)) (now (mask .entry)) (now (value .entry)) (now (words .entry))) first last (held (now (mask .exit)) (now (value .exit)))) ⌝ }
 {
     match check_run(width, lock, mask, value, words, first, last) {
         Verdict::Refused(r) => {

@@ -3,29 +3,46 @@ ghost use mathlib.Core.Path.{_≡_};
 ghost use mathlib.Core.List.{[], _∷_};
 ghost use Prim.Native.Nat.{_/_};
 ghost use lib.ListN.{length};
+ghost use lib.Dec.{T};
 ghost use Rattle.operations.specs.Kind.{Use};
+ghost use Rattle.operations.specs.Kinds.{isKind, kindOf};
 ghost use Rattle.operations.specs.Record.{effectsOf};
-ghost use Rattle.checks.specs.Meant.{lent};
-ghost use Rattle.checks.specs.Coded.{useCode};
+ghost use Rattle.checks.specs.Model.{lent};
+ghost use Rattle.operations.specs.Encoding.{useCode};
 ghost use Rattle.tables.specs.Step.{after};
 ghost use Rattle.tables.specs.Step as Step;
 ghost use Rattle.tables.specs.Run.{programOf};
-ghost use Rattle.tables.specs.Meant.{held};
-ghost use Rattle.tables.specs.Coded.{usedRow, StepReady, StretchReady};
-use checks::described::parameter_use;
-use checks::described::second_use;
+ghost use Rattle.tables.specs.Model.{held};
+ghost use Rattle.tables.specs.Encoding.{usedRow, StepReady, StretchReady};
 use checks::limits::RECORD_WORDS;
 use checks::records::index;
 use checks::rows::wide;
+use operations::parameter_use;
+use operations::second_use;
 
 // The row that a word names, 0 where it names none.
-fn used_row(code: u8, word: u32) -> usize
+fn used_row(code: u64, word: u32) -> usize
     ensures { λ r. ⌜ ((u : Use) → code ≡ useCode u → r ≡ usedRow u word) ⌝ }
 {
     if code != 1 {
         return 0;
     }
     index(word)
+}
+
+// The rows that the words b and p name, 0 where they name none.
+fn second_row(kind: u32, b: u32) -> usize
+    requires { ⌜ T (isKind kind) ⌝ }
+    ensures { λ r. ⌜ r ≡ usedRow (kindOf kind .use-b) b ⌝ }
+{
+    used_row(second_use(kind), b)
+}
+
+fn condition_row(kind: u32, p: u32) -> usize
+    requires { ⌜ T (isKind kind) ⌝ }
+    ensures { λ r. ⌜ r ≡ usedRow (kindOf kind .use-p) p ⌝ }
+{
+    used_row(parameter_use(kind), p)
 }
 
 // One record: all operands are read, then the target's mask and value are written.
@@ -44,8 +61,8 @@ fn step(
 {
     let i = index(t);
     let j = index(a);
-    let k = used_row(second_use(index(kind)), b);
-    let l = used_row(parameter_use(index(kind)), p);
+    let k = second_row(kind, b);
+    let l = condition_row(kind, p);
     let wt = wide(width[i]);
     let wa = wide(width[j]);
     let wb = wide(width[k]);

@@ -1,3 +1,4 @@
+-- The laws and proofs of `texts`.
 pub mod ReadChecks
 pub mod RoundTrips
 pub mod Worked

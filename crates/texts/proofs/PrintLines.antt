@@ -3,21 +3,22 @@
 --   record-at                             the words of a record, by their places in the slice
 --   rows-begin, row-on, rows-end          the row lines
 --   records-begin, record-on, records-end, kind-in   the record lines
-use mathlib.Core.Path.{_≡_, refl, sym, ap, _∙_}
+use mathlib.Core.Path.{_≡_, refl, sym, ap, subst, _∙_}
 use mathlib.Core.List.{List, [], _∷_, _++_}
 use Prim.Native.Nat.{ℕ, suc, _+_, _-_, _*_, _/_, _≤_, _<_}
 use native.Mathlib.Nat.{sub-zero}
 use native.Mathlib.Numerals.{add-one}
 use native.Mathlib.Omega.{arith}
+use lib.Dec.{T}
+use Rattle.operations.specs.Kinds.{isKind}
 use lib.ListN.{length, getD, take, drop, length-drop}
 use lib.Seq.{getD-take, getD-drop, length-take-le}
 use Rattle.operations.specs.Limits.{recordWords}
 use Rattle.operations.specs.Record.{kindWord}
 use Rattle.checks.specs.Table.{Table, recordOf}
-use Rattle.checks.specs.Meant.{lent}
+use Rattle.checks.specs.Model.{lent}
 use Rattle.bits.specs.Counted.{listed}
 use Rattle.grammar.specs.Print.{Line, rowLine, recordLine, lineText, linesText, lineRow, rowLines, recordLines}
-use Rattle.lines.proofs.KindNames.{kind-below}
 use Rattle.lines.proofs.PutLines.{rowText, recordText}
 use Rattle.texts.specs.Print.{RecordsFit}
 
@@ -97,10 +98,10 @@ module _ (words : List ℕ) (fits : RecordsFit words) (i : ℕ) (h : i < length 
       lines-on (λ j. recordLine (recordOf (lent [] [] [] [] words) j)) i (length words / recordWords) h
       ∙ ap (λ (x : List ℕ). lineText (recordLine x) ++ records-from words (i + 1)) (words-at j k t a b p e ek et ea eb ep)
 
-  pub kind-in : (j k : ℕ) → j ≡ recordWords * i → k ≡ getD words j 0 → k < 21
+  pub kind-in : (j k : ℕ) → j ≡ recordWords * i → k ≡ getD words j 0 → T (isKind k)
   kind-in j k e ek =
       let same : kindWord (recordOf (lent [] [] [] [] words) i) ≡ k = ap kindWord (words-at j k _ _ _ _ e ek refl refl refl refl) in
-      omega (arith, kind-below (kindWord (recordOf (lent [] [] [] [] words) i)) (fits .known i h))
+      subst (λ (x : ℕ). T (isKind x)) same (fits .known i h)
 
 pub records-begin : (words : List ℕ) → records-from words 0 ≡ linesText (recordLines (lent [] [] [] [] words))
 records-begin words = ap (λ (n : ℕ). linesText (listed (λ j. recordLine (recordOf (lent [] [] [] [] words) j)) 0 n)) (sub-zero (length words / recordWords))

@@ -16,7 +16,7 @@ use Rattle.grammar.specs.Lines.{linesIn, rowsIn, tableIn, tableRead}
 use Rattle.texts.specs.Calls.{Written, writeOf, Counts, countsOf, ReadBack, filledWith, readOf}
 use Rattle.texts.specs.Trips.{TableBack, firstOf, BytesBack}
 use Rattle.texts.proofs.ReadChecks.{read-of-answer, answer-of-read}
-use Rattle.texts.specs.Meant.{bytesMeant, writeLeft, readMeant, readLeft}
+use Rattle.texts.specs.Model.{bytesModel, writeLeft, readModel, readLeft}
 use Rattle.texts.specs.declared.BytesAnswer.{BytesAnswer}
 use Rattle.texts.specs.declared.BytesAnswer.the-variants.{Bytes, Refused as NotBytes}
 use Rattle.texts.specs.declared.ReadAnswer.{ReadAnswer}
@@ -26,18 +26,18 @@ use Rattle.texts.proofs.RoundTrips.{written, write-of-answer, table-bac
 -- ---- written, then read: by the answer a of write and the buffer that it leaves
 
 module _ (t : Table) (out : List ℕ) (a : BytesAnswer) {new : List ℕ} (found : writeLeft a new ≡ writeOf t out) where
-  answer-is : bytesMeant a ≡ writeOf t out .answer
+  answer-is : bytesModel a ≡ writeOf t out .answer
   answer-is = ap (λ (x : Written). x .answer) found
 
   pub not-written : (r : Refusal) → a ≡ NotBytes r → (lent : Table) (got : ReadBack) → TableBack t out lent got
   not-written r is lent got n w R =
-      let same : refused (r .number) (r .place) ≡ done n = sym (ap bytesMeant is) ∙ answer-is ∙ w in
+      let same : refused (r .number) (r .place) ≡ done n = sym (ap bytesModel is) ∙ answer-is ∙ w in
       let z : _≡_ {A = ℕ} 0 1 = cc in
       absurd (omega arith)
 
   module _ (n : ℕ) (is : a ≡ Bytes n) where
     answered : writeOf t out .answer ≡ done n
-    answered = sym answer-is ∙ ap bytesMeant is
+    answered = sym answer-is ∙ ap bytesModel is
 
     pub write-room : n ≤ length new
     write-room =
@@ -80,18 +80,18 @@ filled-room text lent =
 
 -- by the answer a of read and the slices that it leaves
 module _ (text : List ℕ) (lent : Table) (a : ReadAnswer) {new : Table} (found : readLeft a new ≡ readOf text lent) where
-  read-is : readMeant a ≡ readOf text lent .answer
+  read-is : readModel a ≡ readOf text lent .answer
   read-is = ap (λ (x : ReadBack). x .answer) found
 
   pub not-read : (r : Refusal) → a ≡ NotRead r → (out : List ℕ) (got : Written) → BytesBack text lent out got
   not-read r is out got c w n v =
-      let same : refused (r .number) (r .place) ≡ done c = sym (ap readMeant is) ∙ read-is ∙ w in
+      let same : refused (r .number) (r .place) ≡ done c = sym (ap readModel is) ∙ read-is ∙ w in
       let z : _≡_ {A = ℕ} 0 1 = cc in
       absurd (omega arith)
 
   module _ (rows records : ℕ) (is : a ≡ Read rows records) where
     read-answered : readOf text lent .answer ≡ done (record { rows = rows; records = records })
-    read-answered = sym read-is ∙ ap readMeant is
+    read-answered = sym read-is ∙ ap readModel is
 
     pub read-room : Room (record { rows = rows; records = records }) new
     read-room =

@@ -3,13 +3,10 @@ use mathlib.Core.Path.{_≡_, refl}
 use mathlib.Core.List.{List, [], _∷_}
 use Prim.Native.Nat.{ℕ}
 use Rattle.bits.specs.Bit.{bit}
-use Rattle.operations.specs.Bitwise.{opCopy, opNot, opAnd, opOr, opXor}
-use Rattle.operations.specs.Moves.{opShl, opLshr, opAshr, opRotl, opExtract, opConcat, opZext, opSext}
-use Rattle.operations.specs.Arithmetic.{opAdd, opSub, opNeg, opMul, opEq, opUlt, opSlt, opIte}
 use Rattle.operations.specs.Kinds.{kinds, kindOf}
 use Rattle.checks.specs.Check.{done, refused, verdict}
 use Rattle.checks.specs.Table.{Table}
-use Rattle.checks.specs.Meant.{lent}
+use Rattle.checks.specs.Model.{lent}
 use Rattle.bits.specs.Counted.{listed}
 use Rattle.grammar.specs.Lists.{allOf, same}
 use Rattle.operations.specs.Kind.{bytes}
@@ -30,7 +27,7 @@ abbrev slices : Table
 slices = lent (9 ∷ 9 ∷ 9 ∷ 9 ∷ []) (9 ∷ 9 ∷ 9 ∷ 9 ∷ []) (9 ∷ 9 ∷ 9 ∷ 9 ∷ []) (9 ∷ 9 ∷ 9 ∷ 9 ∷ []) (9 ∷ 9 ∷ 9 ∷ 9 ∷ 9 ∷ [])
 
 prints : textOf table ≡ example
-unfolding bit digits decimal lettersOf fieldsOf joined lineText linesText listed tableLines textOf kindOf kinds opMul opCopy opNot opAnd opOr opXor opShl opLshr opAshr opRotl opExtract opConcat opZext opSext opAdd opSub opNeg
+unfolding bit digits decimal lettersOf fieldsOf joined lineText linesText listed tableLines textOf kindOf
 prints = refl
 
 reads : readOf example slices
@@ -38,12 +35,12 @@ reads : readOf example slices
       answer = done (record { rows = 3; records = 1 });
       slices = lent (3 ∷ 3 ∷ 3 ∷ 9 ∷ []) (0 ∷ 0 ∷ 0 ∷ 9 ∷ []) (2 ∷ 0 ∷ 0 ∷ 9 ∷ []) (1 ∷ 3 ∷ 0 ∷ 9 ∷ []) (16 ∷ 2 ∷ 0 ∷ 1 ∷ 0 ∷ []);
     }
-unfolding readOf readChecks verdict pieces allOf same numeral isNumber numberOf isVector lineOf linesOf linesIn firstBad rowsIn wordsIn tableIn kinds opCopy opNot opAnd opOr opXor opShl opLshr opAshr opRotl opExtract opConcat opZext opSext opAdd opSub opNeg opMul opEq opUlt opSlt opIte
+unfolding readOf readChecks verdict pieces allOf same numeral isNumber numberOf isVector lineOf linesOf linesIn firstBad rowsIn wordsIn tableIn kinds
 reads = refl
 
 -- a row line after a record line, no final LF, a leading zero: each with its line, and the slices as they were
 late-row : readOf (bytes "op\tcopy\t2\t0\t0\t0\nrow\topen\t0X1\n") slices ≡ record { answer = refused 12 2; slices = slices }
-unfolding readOf readChecks verdict pieces allOf same numeral isNumber numberOf isVector lineOf linesOf linesIn firstBad rowsIn wordsIn tableIn kinds opCopy opNot opAnd opOr opXor opShl opLshr opAshr opRotl opExtract opConcat opZext opSext opAdd opSub opNeg opMul opEq opUlt opSlt opIte
+unfolding readOf readChecks verdict pieces allOf same numeral isNumber numberOf isVector lineOf linesOf linesIn firstBad rowsIn wordsIn tableIn kinds
 late-row = refl
 
 no-end : readOf (bytes "row\topen\t0X1\nrow\topen\t0X1") slices ≡ record { answer = refused 12 2; slices = slices }
@@ -51,7 +48,7 @@ unfolding readOf readChecks verdict pieces allOf same numeral isNumber numberOf 
 no-end = refl
 
 leading-zero : readOf (bytes "op\tcopy\t02\t0\t0\t0\n") slices ≡ record { answer = refused 12 1; slices = slices }
-unfolding readOf readChecks verdict pieces allOf same numeral isNumber numberOf isVector lineOf linesOf linesIn firstBad rowsIn wordsIn tableIn kinds opCopy opNot opAnd opOr opXor opShl opLshr opAshr opRotl opExtract opConcat opZext opSext opAdd opSub opNeg opMul opEq opUlt opSlt opIte
+unfolding readOf readChecks verdict pieces allOf same numeral isNumber numberOf isVector lineOf linesOf linesIn firstBad rowsIn wordsIn tableIn kinds
 leading-zero = refl
 
 -- the third field of the fourth line, and an empty part where there is none

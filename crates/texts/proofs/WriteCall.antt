@@ -16,7 +16,7 @@ use Rattle.checks.specs.Check.{Answer, done, refused, verdict, placed}
 use Rattle.checks.specs.Table.{Table}
 use Rattle.checks.specs.Checks.{sizeBound, bufferShort, sizeChecks, writeChecks}
 use Rattle.checks.specs.Accepted.{TablePassed}
-use Rattle.checks.specs.Meant.{judged, meant}
+use Rattle.checks.specs.Model.{judged, verdictModel}
 use Rattle.checks.specs.declared.Refusal.{Refusal}
 use Rattle.checks.specs.declared.Verdict.{Verdict}
 use Rattle.checks.specs.declared.Verdict.the-variants.{Passed, Refused}
@@ -28,7 +28,7 @@ use Rattle.texts.specs.Calls.{sizeOf, writtenAs, writeOf}
 use Rattle.grammar.proofs.WordUses.{words-length}
 use Rattle.grammar.proofs.Sizes.{lines-append, text-size}
 use Rattle.texts.proofs.RoundTrips.{written}
-use Rattle.texts.specs.Meant.{bytesMeant}
+use Rattle.texts.specs.Model.{bytesModel}
 use Rattle.texts.specs.declared.BytesAnswer.{BytesAnswer}
 use Rattle.texts.specs.declared.BytesAnswer.the-variants.{Bytes, Refused as NotBytes}
 use Rattle.texts.specs.Print.{RowsFit, RecordsFit}
@@ -37,15 +37,15 @@ use Rattle.lines.proofs.Puts.{put-length, sets-append}
 
 -- ---- size, by the verdict v of the checks
 
-module _ (t : Table) (v : Verdict) (found : meant v ≡ judged (sizeChecks t)) where
+module _ (t : Table) (v : Verdict) (found : verdictModel v ≡ judged (sizeChecks t)) where
   pub size-refused : (r : Refusal) → v ≡ Refused r → refused (r .number) (r .place) ≡ sizeOf t
   unfolding sizeOf
   size-refused r e =
       sym (sym (ap (λ cs. verdict cs (sizeBound t)) (append-nil (sizeChecks t)))
-      ∙ verdict-refused (sizeChecks t) [] tt (sizeBound t) (r .number) (r .place) (sym found ∙ ap meant e))
+      ∙ verdict-refused (sizeChecks t) [] tt (sizeBound t) (r .number) (r .place) (sym found ∙ ap verdictModel e))
 
   pub size-passed : v ≡ Passed → TablePassed t
-  size-passed e = table-of-answer t tt tt (sym found ∙ ap meant e)
+  size-passed e = table-of-answer t tt tt (sym found ∙ ap verdictModel e)
 
   pub size-done : v ≡ Passed → done (sizeBound t) ≡ sizeOf t
   unfolding sizeOf
@@ -53,16 +53,16 @@ module _ (t : Table) (v : Verdict) (found : meant v ≡ judged (sizeChecks t)) w
 
 -- ---- write, by the answer a of size
 
-module _ (t : Table) (out : List ℕ) (a : BytesAnswer) (found : bytesMeant a ≡ sizeOf t) where
+module _ (t : Table) (out : List ℕ) (a : BytesAnswer) (found : bytesModel a ≡ sizeOf t) where
   pub write-refused : (r : Refusal) → a ≡ NotBytes r → record { answer = refused (r .number) (r .place); buffer = out } ≡ writeOf t out
   unfolding sizeOf writeOf writeChecks
   write-refused r e =
       sym (ap (λ (x : Answer ℕ). writtenAs x t out)
-      (verdict-refused (sizeChecks t) (placed 0 (fault (bufferShort t (length out)) 14 ∷ [])) (sizeBound t) (length (textOf t)) (r .number) (r .place) (sym found ∙ ap bytesMeant e)))
+      (verdict-refused (sizeChecks t) (placed 0 (fault (bufferShort t (length out)) 14 ∷ [])) (sizeBound t) (length (textOf t)) (r .number) (r .place) (sym found ∙ ap bytesModel e)))
 
   module _ (n : ℕ) (is : a ≡ Bytes n) where
     e : done n ≡ sizeOf t
-    e = sym (ap bytesMeant is) ∙ found
+    e = sym (ap bytesModel is) ∙ found
 
     size-is : TablePassed t × (n ≡ sizeBound t)
     unfolding sizeOf

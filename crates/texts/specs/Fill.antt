@@ -2,7 +2,7 @@
 --   Surveyed                  the first pass: the first bad line, or 0 and both counts
 --   RowsWait, RowsRead        the second pass over the row lines: what it needs, and what it leaves
 --   RecordsWait, RecordsRead  the second pass over the record lines
---   Column text f old new     the slice new is old with column f of the rows at its start
+--   ColumnFilled text f old new     the slice new is old with column f of the rows at its start
 use mathlib.Core.Path.{_≡_}
 use mathlib.Core.Bool.{true}
 use mathlib.Core.List.{List, map}
@@ -29,15 +29,15 @@ pub record RowsWait (text : List ℕ) (n : ℕ) (ws ls ms vs : List ℕ) : Type 
   pub masks-hold : n ≤ length ms
   pub values-hold : n ≤ length vs
 
-abbrev pub Column : List ℕ → (LineRow → ℕ) → List ℕ → List ℕ → Type 0
-Column text f old new = new ≡ sets old 0 (map f (rowsIn (linesIn text)))
+abbrev pub ColumnFilled : List ℕ → (LineRow → ℕ) → List ℕ → List ℕ → Type 0
+ColumnFilled text f old new = new ≡ sets old 0 (map f (rowsIn (linesIn text)))
 
 -- the rows are in the slices, and from `at` on there are only record lines
 pub record RowsRead (text : List ℕ) (at : ℕ) (ws ws′ ls ls′ ms ms′ vs vs′ : List ℕ) : Type 0 where
-  pub widths-are : Column text (λ r. r .vector .width) ws ws′
-  pub locks-are : Column text (λ r. r .lock) ls ls′
-  pub masks-are : Column text (λ r. r .vector .mask) ms ms′
-  pub values-are : Column text (λ r. r .vector .value) vs vs′
+  pub widths-are : ColumnFilled text (λ r. r .vector .width) ws ws′
+  pub locks-are : ColumnFilled text (λ r. r .lock) ls ls′
+  pub masks-are : ColumnFilled text (λ r. r .vector .mask) ms ms′
+  pub values-are : ColumnFilled text (λ r. r .vector .value) vs vs′
   pub inside : at ≤ length text
   pub words-left : wordsIn (linesIn (drop at text)) ≡ wordsIn (linesIn text)
   pub good-left : firstBad true 1 (linesIn (drop at text)) ≡ 0

@@ -1,5 +1,6 @@
+-- The definitions of `texts`.
 pub mod Calls
 pub mod Trips
-pub mod Meant
+pub mod Model
 pub mod Fill
 pub mod Print

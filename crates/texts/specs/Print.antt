@@ -11,7 +11,7 @@ use Rattle.operations.specs.Kinds.{isKind}
 use Rattle.operations.specs.Record.{kindWord}
 use Rattle.checks.specs.Limits.{widthLimit}
 use Rattle.checks.specs.Table.{recordCount, recordOf}
-use Rattle.checks.specs.Meant.{lent}
+use Rattle.checks.specs.Model.{lent}
 
 pub record RowsFit (ws ls ms vs : List ℕ) : Type 0 where
   pub locks-length : length ls ≡ length ws

@@ -1,11 +1,11 @@
 // The text of a table: size, write, read and field (01, "Calls" and "Text").
 ghost use mathlib.Core.Path.{_≡_};
 ghost use denote.Ref.{ptr};
-ghost use Rattle.checks.specs.Meant.{lent};
+ghost use Rattle.checks.specs.Model.{lent};
 ghost use Rattle.grammar.specs.Cut.{fieldOf};
 ghost use Rattle.texts.specs.Calls.{sizeOf, writeOf, readOf};
-ghost use Rattle.lines.specs.Meant.{lies};
-ghost use Rattle.texts.specs.Meant.{bytesMeant, writeLeft, readLeft};
+ghost use Rattle.lines.specs.Model.{lies};
+ghost use Rattle.texts.specs.Model.{bytesModel, writeLeft, readLeft};
 use checks::Refusal;
 use checks::Verdict;
 use checks::check_table;
@@ -35,7 +35,7 @@ pub enum BytesAnswer {
 
 // A number of bytes that the text of a table does not exceed.
 pub fn size(width: &[u8], lock: &[u8], mask: &[u32], value: &[u32], words: &[u32]) -> BytesAnswer
-    ensures { λ r. ⌜ bytesMeant r ≡ sizeOf (lent (now (width .entry)) (now (lock .entry)) (now (mask .entry)) (now (value .entry)) (now (words .entry))) ⌝ }
+    ensures { λ r. ⌜ bytesModel r ≡ sizeOf (lent (now (width .entry)) (now (lock .entry)) (now (mask .entry)) (now (value .entry)) (now (words .entry))) ⌝ }
 {
     let found = check_table(width, lock, mask, value, words);
     match found {

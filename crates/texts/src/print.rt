@@ -1,7 +1,7 @@
 // Writing the lines of a table into a lent buffer (01, "Text": all row lines, then record lines).
 ghost use mathlib.Core.Path.{_≡_};
 ghost use mathlib.Core.List.{[]};
-ghost use Rattle.checks.specs.Meant.{lent};
+ghost use Rattle.checks.specs.Model.{lent};
 ghost use Rattle.grammar.specs.Print.{linesText, rowLines, recordLines};
 ghost use Rattle.lines.specs.Put.{Holds, Put};
 ghost use Rattle.texts.specs.Print.{RowsFit, RecordsFit};

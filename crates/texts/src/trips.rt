@@ -1,7 +1,7 @@
 // The round trips through the text over the calls themselves (demand 2): each contract is the round trip.
-ghost use Rattle.checks.specs.Meant.{lent};
+ghost use Rattle.checks.specs.Model.{lent};
 ghost use Rattle.texts.specs.Trips.{TableBack, BytesBack};
-ghost use Rattle.texts.specs.Meant.{writeLeft, readLeft};
+ghost use Rattle.texts.specs.Model.{writeLeft, readLeft};
 use crate::BytesAnswer;
 use crate::ReadAnswer;
 use crate::read;

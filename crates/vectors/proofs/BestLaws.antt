@@ -8,12 +8,12 @@ use lib.ListN.{getD}
 use lib.Pow.{pow-pos}
 use Rattle.bits.specs.Bit.{bit}
 use Rattle.bits.proofs.Bits.{bit-ext, bit-of-zero}
-use Rattle.vectors.specs.Lists.{Each, Along}
+use Rattle.vectors.specs.Lists.{All, Pointwise}
 use Rattle.vectors.specs.Row.{Row, row, WellFormed, Covers, Inside}
 use Rattle.vectors.specs.Choice.{Chosen}
 use Rattle.vectors.specs.Best.{best, Exact}
 use Rattle.vectors.specs.Hull.{Hull, Results}
-use Rattle.vectors.proofs.Rows.{pick}
+use Rattle.vectors.proofs.Rows.{covered-bit}
 use Rattle.vectors.proofs.Choices.{some-chosen, chosen-inside}
 use Rattle.vectors.proofs.Hulls.{hull-covers, hull-all, hull-least, hull-mono}
 use Rattle.vectors.proofs.Bests.{Gives, ByBits, best-by-bits, best-hull, some-result, best-from-bits}
@@ -27,7 +27,7 @@ module _ (w : ℕ) (f : List ℕ → ℕ) (rows : List Row) where
   best-covers ns c h = hull-covers w (Results f rows) (best w f rows) (best-hull w f rows) (f ns) (result ns c) h
 
   -- exact in both directions, and with the fewest unknown bits among all vectors of that width that cover all results
-  pub best-exact : Each WellFormed rows → ((ns : List ℕ) → Chosen rows ns → f ns < 2 ^ w) → Exact w f rows (best w f rows)
+  pub best-exact : All WellFormed rows → ((ns : List ℕ) → Chosen rows ns → f ns < 2 ^ w) → Exact w f rows (best w f rows)
   best-exact F below =
       record {
         width-is = H .width-is;
@@ -49,13 +49,13 @@ module _ (w : ℕ) (f : List ℕ → ℕ) (rows : List Row) where
       each k b all n s = ap (λ (x : ℕ). bit x k) (sym (s .gives)) ∙ all (s .numbers) (s .chosen)
 
 -- operands inside, result inside
-pub best-mono : (w : ℕ) (f : List ℕ → ℕ) (ps qs : List Row) → Each WellFormed ps → Along Inside ps qs → Inside (best w f ps) (best w f qs)
+pub best-mono : (w : ℕ) (f : List ℕ → ℕ) (ps qs : List Row) → All WellFormed ps → Pointwise Inside ps qs → Inside (best w f ps) (best w f qs)
 best-mono w f ps qs F I =
     hull-mono w (Results f ps) (Results f qs) (best w f ps) (best w f qs) (some-result f ps F)
     (λ n s. record { numbers = s .numbers; chosen = chosen-inside ps qs (s .numbers) I (s .chosen); gives = s .gives }) (best-hull w f ps) (best-hull w f qs)
 
 -- functions that agree on all choices give one result
-pub best-ext : (w : ℕ) (f g : List ℕ → ℕ) (rows : List Row) → Each WellFormed rows → ((ns : List ℕ) → Chosen rows ns → f ns ≡ g ns) → best w f rows ≡ best w g rows
+pub best-ext : (w : ℕ) (f g : List ℕ → ℕ) (rows : List Row) → All WellFormed rows → ((ns : List ℕ) → Chosen rows ns → f ns ≡ g ns) → best w f rows ≡ best w g rows
 best-ext w f g rows F e =
     best-from-bits F (record {
       width-is = B .width-is;
@@ -71,7 +71,7 @@ best-ext w f g rows F e =
     B = best-by-bits w f rows
 
 -- a function that gives one number on all choices gives that number, with an empty mask
-pub best-constant : (w : ℕ) (f : List ℕ → ℕ) (rows : List Row) (n : ℕ) → Each WellFormed rows → n < 2 ^ w → ((ns : List ℕ) → Chosen rows ns → f ns ≡ n) → best w f rows ≡ row w 0 n
+pub best-constant : (w : ℕ) (f : List ℕ → ℕ) (rows : List Row) (n : ℕ) → All WellFormed rows → n < 2 ^ w → ((ns : List ℕ) → Chosen rows ns → f ns ≡ n) → best w f rows ≡ row w 0 n
 best-constant w f rows n F h e =
     sym (best-from-bits F (record {
       width-is = refl;
@@ -86,7 +86,7 @@ best-constant w f rows n F h e =
 pub known-covers : (r : Row) (n : ℕ) → WellFormed r → r .mask ≡ 0 → Covers r n → n ≡ r .value
 known-covers r n F e c = bit-ext (r .width) n (r .value) (c .below) (F .value-below) (λ k h. c .agrees k h (ap (λ (x : ℕ). bit x k) e ∙ bit-of-zero k))
 
-pub known-chosen : (rows : List Row) (ns : List ℕ) → Each WellFormed rows → Each (λ r. r .mask ≡ 0) rows → Chosen rows ns → ns ≡ map (λ r. r .value) rows
+pub known-chosen : (rows : List Row) (ns : List ℕ) → All WellFormed rows → All (λ r. r .mask ≡ 0) rows → Chosen rows ns → ns ≡ map (λ r. r .value) rows
 known-chosen [] [] F K c = refl
 known-chosen [] (n ∷ ns) F K c = absurd c
 known-chosen (r ∷ rs) [] F K c = absurd c
@@ -95,7 +95,7 @@ known-chosen (r ∷ rs) (n ∷ ns) F K c =
     let q = known-chosen rs ns (F .1) (K .1) (c .1) in
     λ ι. p ι ∷ q ι
 
-pub best-known : (w : ℕ) (f : List ℕ → ℕ) (rows : List Row) → Each WellFormed rows → Each (λ r. r .mask ≡ 0) rows → f (map (λ r. r .value) rows) < 2 ^ w
+pub best-known : (w : ℕ) (f : List ℕ → ℕ) (rows : List Row) → All WellFormed rows → All (λ r. r .mask ≡ 0) rows → f (map (λ r. r .value) rows) < 2 ^ w
     → best w f rows ≡ row w 0 (f (map (λ r. r .value) rows))
 best-known w f rows F K h = best-constant w f rows (f (map (λ r. r .value) rows)) F h (λ ns c. ap f (known-chosen rows ns F K c))
 
@@ -111,7 +111,7 @@ best-copy r F =
     }))
   where
     one : (k b : ℕ) → b < 2 → bit (r .mask) k ≡ 1 → Gives (λ ns. getD ns 0 0) (r ∷ []) k b
-    one k b h e = let p = pick r F k b h (inl e) in record { numbers = p .0 ∷ []; chosen = (p .1, tt); gives = p .2 }
+    one k b h e = let p = covered-bit r F k b h (inl e) in record { numbers = p .0 ∷ []; chosen = (p .1, tt); gives = p .2 }
 
     at : (k : ℕ) → k < r .width → bit (r .mask) k ≡ 0 → (ns : List ℕ) → Chosen (r ∷ []) ns → bit (getD ns 0 0) k ≡ bit (r .value) k
     at k h e [] c = absurd c

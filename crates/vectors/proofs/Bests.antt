@@ -12,13 +12,13 @@ use lib.Dec.{T, eqb→eq}
 use Rattle.bits.specs.Bit.{bit, digit}
 use Rattle.bits.proofs.Bits.{bit-cases, bit-above, bit-number, number-below}
 use Rattle.bits.proofs.Bools.{eq→eqb}
-use Rattle.vectors.specs.Lists.{Each}
+use Rattle.vectors.specs.Lists.{All}
 use Rattle.vectors.specs.Row.{Row, WellFormed}
 use Rattle.vectors.specs.Choice.{Chosen}
 use Rattle.vectors.specs.Best.{may, best}
 use Rattle.vectors.specs.Hull.{Shows, Hull, Results}
 use Rattle.vectors.proofs.Choices.{someChoice-intro, someChoice-elim, some-chosen}
-use Rattle.vectors.proofs.Hulls.{Some, hull-unique}
+use Rattle.vectors.proofs.Hulls.{Inhabited, hull-unique}
 
 pub record Gives (f : List ℕ → ℕ) (rows : List Row) (k b : ℕ) : Type 0 where
   pub numbers : List ℕ
@@ -45,7 +45,7 @@ hull-of-bits w f rows r B =
       known = λ k h e n s. ap (λ (x : ℕ). bit x k) (sym (s .gives)) ∙ B .known k h e (s .numbers) (s .chosen);
     }
 
-pub some-result : (f : List ℕ → ℕ) (rows : List Row) → Each WellFormed rows → Some (Results f rows)
+pub some-result : (f : List ℕ → ℕ) (rows : List Row) → All WellFormed rows → Inhabited (Results f rows)
 some-result f rows F = let (ns, c) = some-chosen rows F in record { member = f ns; is-in = record { numbers = ns; chosen = c; gives = refl } }
 
 -- ---- `best` is settled bit by bit
@@ -114,9 +114,9 @@ module _ (w : ℕ) (f : List ℕ → ℕ) (rows : List Row) where
 
 -- ---- and it is the only such vector
 
-pub best-of-hull : (w : ℕ) (f : List ℕ → ℕ) (rows : List Row) (r : Row) → Each WellFormed rows → Hull w (Results f rows) r → r ≡ best w f rows
+pub best-of-hull : (w : ℕ) (f : List ℕ → ℕ) (rows : List Row) (r : Row) → All WellFormed rows → Hull w (Results f rows) r → r ≡ best w f rows
 best-of-hull w f rows r F H = hull-unique w (Results f rows) r (best w f rows) (some-result f rows F) H (best-hull w f rows)
 
 -- the law that each kernel's proof uses
-pub best-from-bits : {w : ℕ} {f : List ℕ → ℕ} {rows : List Row} {r : Row} → Each WellFormed rows → ByBits w f rows r → r ≡ best w f rows
+pub best-from-bits : {w : ℕ} {f : List ℕ → ℕ} {rows : List Row} {r : Row} → All WellFormed rows → ByBits w f rows r → r ≡ best w f rows
 best-from-bits {w} {f} {rows} {r} F B = best-of-hull w f rows r F (hull-of-bits w f rows r B)

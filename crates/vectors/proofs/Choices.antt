@@ -10,7 +10,7 @@ use Rattle.bits.specs.Bit.{bit}
 use Rattle.bits.proofs.Bits.{bit-cases}
 use Rattle.bits.proofs.Bools.{T-and, T-left, T-right, T-inl, T-inr, T-or, eq→eqb}
 use Rattle.bits.proofs.Below.{someBelow-intro, someBelow-elim, allBelow-intro, allBelow-elim}
-use Rattle.vectors.specs.Lists.{Each, Along}
+use Rattle.vectors.specs.Lists.{All, Pointwise}
 use Rattle.vectors.specs.Row.{Row, WellFormed, Covers, Inside}
 use Rattle.vectors.specs.Choice.{Chosen, coversb, someChoice}
 use Rattle.vectors.proofs.Rows.{covers-value}
@@ -58,11 +58,11 @@ someChoice-elim (r ∷ rs) p t =
     (n ∷ ns, (covers-of-test r n (T-left (coversb r n) _ u), c), v)
 
 -- well-formed rows leave a choice: their values
-pub some-chosen : (rows : List Row) → Each WellFormed rows → (ns : List ℕ) × Chosen rows ns
+pub some-chosen : (rows : List Row) → All WellFormed rows → (ns : List ℕ) × Chosen rows ns
 some-chosen [] f = ([], tt)
 some-chosen (r ∷ rs) f = let (ns, c) = some-chosen rs (f .1) in (r .value ∷ ns, (covers-value r (f .0), c))
 
-pub chosen-inside : (ps qs : List Row) (ns : List ℕ) → Along Inside ps qs → Chosen ps ns → Chosen qs ns
+pub chosen-inside : (ps qs : List Row) (ns : List ℕ) → Pointwise Inside ps qs → Chosen ps ns → Chosen qs ns
 chosen-inside [] [] ns i c = c
 chosen-inside [] (q ∷ qs) ns i c = absurd i
 chosen-inside (p ∷ ps) [] ns i c = absurd i

@@ -1,5 +1,5 @@
 -- What follows for the best vector that covers a set of numbers. Assumes nothing.
---   Some P   the set P has a number
+--   Inhabited P   the set P has a number
 use mathlib.Core.Path.{_≡_, refl, sym, _∙_}
 use mathlib.Core.Logic.{inl, inr}
 use Prim.Native.Nat.{ℕ, _^_, _≤_, _<_}
@@ -8,9 +8,9 @@ use Rattle.bits.specs.Bit.{bit}
 use Rattle.bits.proofs.Bits.{bit-lt, bit-cases, bit-ext, onesIn-mono}
 use Rattle.vectors.specs.Row.{Row, WellFormed, Covers, Inside, unknowns}
 use Rattle.vectors.specs.Hull.{Shows, Hull}
-use Rattle.vectors.proofs.Rows.{pick}
+use Rattle.vectors.proofs.Rows.{covered-bit}
 
-pub record Some (P : ℕ → Type 0) : Type 0 where
+pub record Inhabited (P : ℕ → Type 0) : Type 0 where
   pub member : ℕ
   pub is-in : P member
 
@@ -33,7 +33,7 @@ module _ (w : ℕ) (P : ℕ → Type 0) (r : Row) (H : Hull w P r) where
       ]
 
   -- it is inside every vector that covers the set
-  pub hull-inside : Some P → (q : Row) → q .width ≡ w → ((n : ℕ) → P n → Covers q n) → Inside r q
+  pub hull-inside : Inhabited P → (q : Row) → q .width ≡ w → ((n : ℕ) → P n → Covers q n) → Inside r q
   hull-inside S q e all n c =
       record {
         below = rw e (rw (H .width-is) at (c .below));
@@ -69,7 +69,7 @@ hull-iff w P Q r f g H =
     }
 
 -- a set has one best vector
-pub hull-unique : (w : ℕ) (P : ℕ → Type 0) (r s : Row) → Some P → Hull w P r → Hull w P s → r ≡ s
+pub hull-unique : (w : ℕ) (P : ℕ → Type 0) (r s : Row) → Inhabited P → Hull w P r → Hull w P s → r ≡ s
 hull-unique w P r s S H J = λ ι. record { width = (H .width-is ∙ sym (J .width-is)) ι; mask = masks ι; value = values ι }
   where
     below : (t : Row) → Hull w P t → (t .mask < 2 ^ w) × (t .value < 2 ^ w)
@@ -99,7 +99,7 @@ hull-unique w P r s S H J = λ ι. record { width = (H .width-is ∙ sym (J .wid
     values = bit-ext w (r .value) (s .value) (below r H .1) (below s J .1) value-bit
 
 -- a smaller set has its best vector inside
-pub hull-mono : (w : ℕ) (P Q : ℕ → Type 0) (p q : Row) → Some P → ((n : ℕ) → P n → Q n) → Hull w P p → Hull w Q q → Inside p q
+pub hull-mono : (w : ℕ) (P Q : ℕ → Type 0) (p q : Row) → Inhabited P → ((n : ℕ) → P n → Q n) → Hull w P p → Hull w Q q → Inside p q
 hull-mono w P Q p q S sub H J n c =
     record {
       below = rw (J .width-is) (rw (H .width-is) at (c .below));
@@ -117,8 +117,8 @@ hull-row r F =
       width-is = refl;
       formed = F;
       unknown = λ k h e. (
-        (let p = pick r F k 0 (omega arith) (inl e) in record { shown = p .0; within = p .1; shows = p .2 }),
-        (let p = pick r F k 1 (omega arith) (inl e) in record { shown = p .0; within = p .1; shows = p .2 }),
+        (let p = covered-bit r F k 0 (omega arith) (inl e) in record { shown = p .0; within = p .1; shows = p .2 }),
+        (let p = covered-bit r F k 1 (omega arith) (inl e) in record { shown = p .0; within = p .1; shows = p .2 }),
       );
       known = λ k h e n c. c .agrees k h e;
     }

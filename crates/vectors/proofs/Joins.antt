@@ -8,7 +8,7 @@ use Rattle.bits.specs.Bit.{bit}
 use Rattle.bits.proofs.Bits.{bit-lt, bit-cases, bit-and, bit-or, bit-xor}
 use Rattle.vectors.specs.Row.{Row, WellFormed, Inside}
 use Rattle.vectors.specs.Hull.{Shows, Hull, join}
-use Rattle.vectors.proofs.Hulls.{Some, shows-imp}
+use Rattle.vectors.proofs.Hulls.{Inhabited, shows-imp}
 
 pub differ-cases : (x y : ℕ) → x < 2 → y < 2 → ((x ≡ y) × (differ x y ≡ 0)) ⊎ ((x + y ≡ 1) × (differ x y ≡ 1))
 differ-cases zero zero p q = inl (refl, refl)
@@ -63,7 +63,7 @@ module _ (p q : Row) where
   join-right e n c = record { below = rw e (c .below); agrees = λ k h z. let j = join-known k z in c .agrees k (rw e at h) (j .1) ∙ j .3 }
 
 -- the join is the best vector for both sets
-pub hull-join : (w : ℕ) (P Q : ℕ → Type 0) (p q : Row) → Hull w P p → Hull w Q q → Some P → Some Q → Hull w (λ n. P n ⊎ Q n) (join p q)
+pub hull-join : (w : ℕ) (P Q : ℕ → Type 0) (p q : Row) → Hull w P p → Hull w Q q → Inhabited P → Inhabited Q → Hull w (λ n. P n ⊎ Q n) (join p q)
 hull-join w P Q p q H J S U =
     record {
       width-is = H .width-is;

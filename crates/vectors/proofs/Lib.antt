@@ -1,3 +1,4 @@
+-- The laws and proofs of `vectors`.
 pub mod Lists
 pub mod Rows
 pub mod Choices

@@ -58,11 +58,11 @@ covered-part r n F C =
     at k l (inr e) = let z = bit-and n (r .mask) k in let a = F .apart k e in let b = bit-lt n k in omega arith
 
 -- a covered number that has b at bit k
-pub pick : (r : Row) → WellFormed r → (k b : ℕ) → b < 2 → (bit (r .mask) k ≡ 1) ⊎ (bit (r .value) k ≡ b) → (n : ℕ) × Covers r n × (bit n k ≡ b)
-pick r F k b h (inr e) = (r .value, covers-value r F, e)
-pick r F k zero h (inl e) = (r .value, covers-value r F, F .apart k e)
-pick r F k (suc zero) h (inl e) = (top r, covers-top r F, bit-or (r .value) (r .mask) k ∙ (let l = bit-lt (r .value) k in omega arith))
-pick r F k (suc (suc b)) h (inl e) = absurd (omega arith)
+pub covered-bit : (r : Row) → WellFormed r → (k b : ℕ) → b < 2 → (bit (r .mask) k ≡ 1) ⊎ (bit (r .value) k ≡ b) → (n : ℕ) × Covers r n × (bit n k ≡ b)
+covered-bit r F k b h (inr e) = (r .value, covers-value r F, e)
+covered-bit r F k zero h (inl e) = (r .value, covers-value r F, F .apart k e)
+covered-bit r F k (suc zero) h (inl e) = (top r, covers-top r F, bit-or (r .value) (r .mask) k ∙ (let l = bit-lt (r .value) k in omega arith))
+covered-bit r F k (suc (suc b)) h (inl e) = absurd (omega arith)
 
 -- ---- mask and value share no set bit: as one test on the two words, both ways
 

@@ -8,12 +8,12 @@ use Prim.Native.Nat.{ℕ, _^_}
 use lib.Dec.{ltb, eqb}
 use Rattle.bits.specs.Bit.{bit}
 use Rattle.bits.specs.Below.{someBelow, allBelow}
-use Rattle.vectors.specs.Lists.{Along}
+use Rattle.vectors.specs.Lists.{Pointwise}
 use Rattle.vectors.specs.Row.{Row, Covers}
 
 -- "Operands are chosen independently, also where two operand words name the same row."
 abbrev pub Chosen : List Row → List ℕ → Type 0
-Chosen rows ns = Along Covers rows ns
+Chosen rows ns = Pointwise Covers rows ns
 
 unfoldable pub coversb : Row → ℕ → Bool
 coversb r n = ltb n (2 ^ r .width) && allBelow (r .width) (λ k. not (eqb (bit (r .mask) k) 0) || eqb (bit n k) (bit (r .value) k))

@@ -1,3 +1,4 @@
+-- The definitions of `vectors`.
 pub mod Lists
 pub mod Row
 pub mod Choice

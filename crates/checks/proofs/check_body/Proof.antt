@@ -1,9 +1,9 @@
 -- `checks::check_body` meets its contract: the rows, then the records. Assumes nothing.
 use mathlib.Core.Path.{sym, ap, _∙_}
 use Rattle.checks.specs.Checks.{rowChecks}
-use Rattle.checks.specs.Meant.{lent, meant}
-use Rattle.checks.specs.Coded.{recordsWith}
-use Rattle.checks.proofs.Walks.{goes-on, stops}
+use Rattle.checks.specs.Model.{lent, verdictModel}
+use Rattle.checks.specs.Encoding.{recordsWith}
+use Rattle.checks.proofs.VerdictParts.{goes-on, stops}
 use borrow.Author.Needs.{needs}
 use Rattle.checks.proofs.check_body.Statement.{statement}
 use Rattle.checks.proofs.check_body.Tie as tie
@@ -17,7 +17,7 @@ enum-told c = search needs
 returns : tie.Need-returns
 returns c =
     let a = c .before .before .before .before .before .before .before .before .args in
-    ap meant (c .enum-told .given .1) ∙ sym (stops (c .before .before .check-rows .result) (rowChecks (lent (a .width .now) (a .lock .now) (a .mask .now) (a .value .now) (a .words .now))) (recordsWith (a .locked) (lent (a .width .now) (a .lock .now) (a .mask .now) (a .value .now) (a .words .now))) (c .before .before .check-rows .ensures) _ (c .enum-told .given .1))
+    ap verdictModel (c .enum-told .given .1) ∙ sym (stops (c .before .before .check-rows .result) (rowChecks (lent (a .width .now) (a .lock .now) (a .mask .now) (a .value .now) (a .words .now))) (recordsWith (a .locked) (lent (a .width .now) (a .lock .now) (a .mask .now) (a .value .now) (a .words .now))) (c .before .before .check-rows .ensures) _ (c .enum-told .given .1))
 
 enum-told-2 : tie.Need-enum-told-2
 enum-told-2 c = search needs

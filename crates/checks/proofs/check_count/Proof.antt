@@ -3,9 +3,9 @@ use mathlib.Core.Path.{sym, ap, _∙_}
 use mathlib.Core.List.{[], _∷_, _++_}
 use Rattle.checks.specs.Check.{placed, verdict}
 use Rattle.checks.specs.Checks.{rowShapeFaults, rowChecks, countChecks, rowOutside}
-use Rattle.checks.specs.Meant.{lent, meant}
+use Rattle.checks.specs.Model.{lent, verdictModel}
 use Rattle.checks.proofs.Verdicts.{passed-of-done}
-use Rattle.checks.proofs.Walks.{goes-on, stops, slices-of-shape}
+use Rattle.checks.proofs.VerdictParts.{goes-on, stops, slices-of-shape}
 use Rattle.operations.specs.Record.{fault}
 use borrow.Author.Tests.{le-leb, lt-leb}
 use borrow.Author.Needs.{needs}
@@ -19,18 +19,18 @@ returns : tie.Need-returns
 unfolding countChecks
 returns c =
     let a = c .before .before .before .before .before .before .before .args in
-    ap meant (c .enum-told .given .1) ∙ sym (stops (c .before .before .check-shape .result) (placed 0 (rowShapeFaults (lent (a .width .now) (a .lock .now) (a .mask .now) (a .value .now) []))) (rowChecks (lent (a .width .now) (a .lock .now) (a .mask .now) (a .value .now) []) ++ placed (a .row) (fault (rowOutside (lent (a .width .now) (a .lock .now) (a .mask .now) (a .value .now) []) (a .row)) 7 ∷ [])) (c .before .before .check-shape .ensures) _ (c .enum-told .given .1))
+    ap verdictModel (c .enum-told .given .1) ∙ sym (stops (c .before .before .check-shape .result) (placed 0 (rowShapeFaults (lent (a .width .now) (a .lock .now) (a .mask .now) (a .value .now) []))) (rowChecks (lent (a .width .now) (a .lock .now) (a .mask .now) (a .value .now) []) ++ placed (a .row) (fault (rowOutside (lent (a .width .now) (a .lock .now) (a .mask .now) (a .value .now) []) (a .row)) 7 ∷ [])) (c .before .before .check-shape .ensures) _ (c .enum-told .given .1))
 
 check-rows-requires : tie.Need-check-rows-requires
 check-rows-requires c κs =
     let a = c .before .before .before .before .before .before .before .args in
-    slices-of-shape (lent (a .width .now) (a .lock .now) (a .mask .now) (a .value .now) []) (passed-of-done (placed 0 (rowShapeFaults (lent (a .width .now) (a .lock .now) (a .mask .now) (a .value .now) []))) tt tt (sym (c .before .before .check-shape .ensures) ∙ ap meant (c .enum-told2 .given .1))) .1
+    slices-of-shape (lent (a .width .now) (a .lock .now) (a .mask .now) (a .value .now) []) (passed-of-done (placed 0 (rowShapeFaults (lent (a .width .now) (a .lock .now) (a .mask .now) (a .value .now) []))) tt tt (sym (c .before .before .check-shape .ensures) ∙ ap verdictModel (c .enum-told2 .given .1))) .1
 
 returns-2 : tie.Need-returns-2
 unfolding countChecks
 returns-2 c =
     let a = c .before .before .before .before .before .before .before .before .before .before .args in
-    ap meant (c .enum-told3 .given .1)
+    ap verdictModel (c .enum-told3 .given .1)
     ∙ sym (goes-on (c .before .before .before .before .before .check-shape .result) (placed 0 (rowShapeFaults (lent (a .width .now) (a .lock .now) (a .mask .now) (a .value .now) []))) (rowChecks (lent (a .width .now) (a .lock .now) (a .mask .now) (a .value .now) []) ++ placed (a .row) (fault (rowOutside (lent (a .width .now) (a .lock .now) (a .mask .now) (a .value .now) []) (a .row)) 7 ∷ [])) (c .before .before .before .before .before .check-shape .ensures) (c .before .before .before .enum-told2 .given .1)
     ∙ stops (c .before .before .check-rows .result) (rowChecks (lent (a .width .now) (a .lock .now) (a .mask .now) (a .value .now) [])) (placed (a .row) (fault (rowOutside (lent (a .width .now) (a .lock .now) (a .mask .now) (a .value .now) []) (a .row)) 7 ∷ [])) (c .before .before .check-rows .ensures) _ (c .enum-told3 .given .1))
 

@@ -2,8 +2,8 @@
 use mathlib.Core.Path.{sym, ap, _∙_}
 use Rattle.checks.specs.Check.{placed}
 use Rattle.checks.specs.Checks.{rowShapeFaults, wordFaults}
-use Rattle.checks.specs.Meant.{lent, meant}
-use Rattle.checks.proofs.Walks.{goes-on, stops}
+use Rattle.checks.specs.Model.{lent, verdictModel}
+use Rattle.checks.proofs.VerdictParts.{goes-on, stops}
 use borrow.Author.Needs.{needs}
 use Rattle.checks.proofs.check_head.Statement.{statement}
 use Rattle.checks.proofs.check_head.Tie as tie
@@ -17,7 +17,7 @@ enum-told c = search needs
 returns : tie.Need-returns
 returns c =
     let a = c .before .before .before .before .before .before .before .before .args in
-    ap meant (c .enum-told .given .1) ∙ sym (stops (c .before .before .check-shape .result) (placed 0 (rowShapeFaults (lent (a .width .now) (a .lock .now) (a .mask .now) (a .value .now) (a .words .now)))) (placed 0 (wordFaults (lent (a .width .now) (a .lock .now) (a .mask .now) (a .value .now) (a .words .now)))) (c .before .before .check-shape .ensures) _ (c .enum-told .given .1))
+    ap verdictModel (c .enum-told .given .1) ∙ sym (stops (c .before .before .check-shape .result) (placed 0 (rowShapeFaults (lent (a .width .now) (a .lock .now) (a .mask .now) (a .value .now) (a .words .now)))) (placed 0 (wordFaults (lent (a .width .now) (a .lock .now) (a .mask .now) (a .value .now) (a .words .now)))) (c .before .before .check-shape .ensures) _ (c .enum-told .given .1))
 
 enum-told-2 : tie.Need-enum-told-2
 enum-told-2 c = search needs

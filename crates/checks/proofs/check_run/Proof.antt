@@ -4,10 +4,10 @@ use mathlib.Core.Bool.{true}
 use mathlib.Core.List.{_++_}
 use Rattle.checks.specs.Check.{placed}
 use Rattle.checks.specs.Checks.{rowShapeFaults, wordFaults, stretchFaults, runChecks}
-use Rattle.checks.specs.Meant.{lent, meant}
-use Rattle.checks.specs.Coded.{headChecks, bodyChecks}
+use Rattle.checks.specs.Model.{lent, verdictModel}
+use Rattle.checks.specs.Encoding.{headChecks, bodyChecks}
 use Rattle.checks.proofs.Verdicts.{passed-of-done, passed-left}
-use Rattle.checks.proofs.Walks.{goes-on, stops, slices-of-shape}
+use Rattle.checks.proofs.VerdictParts.{goes-on, stops, slices-of-shape}
 use borrow.Author.Needs.{needs}
 use Rattle.checks.proofs.check_run.Statement.{statement}
 use Rattle.checks.proofs.check_run.Tie as tie
@@ -19,20 +19,20 @@ returns : tie.Need-returns
 unfolding runChecks
 returns c =
     let a = c .before .before .before .before .before .before .before .before .args in
-    ap meant (c .enum-told .given .1) ∙ sym (stops (c .before .before .check-head .result) (headChecks (lent (a .width .now) (a .lock .now) (a .mask .now) (a .value .now) (a .words .now))) (placed 0 (stretchFaults (lent (a .width .now) (a .lock .now) (a .mask .now) (a .value .now) (a .words .now)) (a .first) (a .last)) ++ bodyChecks true (lent (a .width .now) (a .lock .now) (a .mask .now) (a .value .now) (a .words .now))) (c .before .before .check-head .ensures) _ (c .enum-told .given .1))
+    ap verdictModel (c .enum-told .given .1) ∙ sym (stops (c .before .before .check-head .result) (headChecks (lent (a .width .now) (a .lock .now) (a .mask .now) (a .value .now) (a .words .now))) (placed 0 (stretchFaults (lent (a .width .now) (a .lock .now) (a .mask .now) (a .value .now) (a .words .now)) (a .first) (a .last)) ++ bodyChecks true (lent (a .width .now) (a .lock .now) (a .mask .now) (a .value .now) (a .words .now))) (c .before .before .check-head .ensures) _ (c .enum-told .given .1))
 
 returns-2 : tie.Need-returns-2
 unfolding runChecks
 returns-2 c =
     let a = c .before .before .before .before .before .before .before .before .before .before .before .args in
-    ap meant (c .enum-told3 .given .1)
+    ap verdictModel (c .enum-told3 .given .1)
     ∙ sym (goes-on (c .before .before .before .before .before .check-head .result) (headChecks (lent (a .width .now) (a .lock .now) (a .mask .now) (a .value .now) (a .words .now))) (placed 0 (stretchFaults (lent (a .width .now) (a .lock .now) (a .mask .now) (a .value .now) (a .words .now)) (a .first) (a .last)) ++ bodyChecks true (lent (a .width .now) (a .lock .now) (a .mask .now) (a .value .now) (a .words .now))) (c .before .before .before .before .before .check-head .ensures) (c .before .before .before .enum-told2 .given .1)
     ∙ stops (c .before .before .check-stretch .result) (placed 0 (stretchFaults (lent (a .width .now) (a .lock .now) (a .mask .now) (a .value .now) (a .words .now)) (a .first) (a .last))) (bodyChecks true (lent (a .width .now) (a .lock .now) (a .mask .now) (a .value .now) (a .words .now))) (c .before .before .check-stretch .ensures) _ (c .enum-told3 .given .1))
 
 check-body-requires : tie.Need-check-body-requires
 check-body-requires c κs =
     let a = c .before .before .before .before .before .before .before .before .before .before .before .args in
-    slices-of-shape (lent (a .width .now) (a .lock .now) (a .mask .now) (a .value .now) (a .words .now)) (passed-left (placed 0 (rowShapeFaults (lent (a .width .now) (a .lock .now) (a .mask .now) (a .value .now) (a .words .now)))) (placed 0 (wordFaults (lent (a .width .now) (a .lock .now) (a .mask .now) (a .value .now) (a .words .now)))) (passed-of-done (headChecks (lent (a .width .now) (a .lock .now) (a .mask .now) (a .value .now) (a .words .now))) tt tt (sym (c .before .before .before .before .before .check-head .ensures) ∙ ap meant (c .before .before .before .enum-told2 .given .1))))
+    slices-of-shape (lent (a .width .now) (a .lock .now) (a .mask .now) (a .value .now) (a .words .now)) (passed-left (placed 0 (rowShapeFaults (lent (a .width .now) (a .lock .now) (a .mask .now) (a .value .now) (a .words .now)))) (placed 0 (wordFaults (lent (a .width .now) (a .lock .now) (a .mask .now) (a .value .now) (a .words .now)))) (passed-of-done (headChecks (lent (a .width .now) (a .lock .now) (a .mask .now) (a .value .now) (a .words .now))) tt tt (sym (c .before .before .before .before .before .check-head .ensures) ∙ ap verdictModel (c .before .before .before .enum-told2 .given .1))))
 
 returns-3 : tie.Need-returns-3
 unfolding runChecks

@@ -3,10 +3,10 @@ use mathlib.Core.Path.{sym, ap, _∙_}
 use mathlib.Core.List.{_++_}
 use Rattle.checks.specs.Check.{placed}
 use Rattle.checks.specs.Checks.{rowShapeFaults, wordFaults, rowChecks, recordChecks, sizeChecks}
-use Rattle.checks.specs.Meant.{lent, meant, judged}
-use Rattle.checks.specs.Coded.{headChecks}
+use Rattle.checks.specs.Model.{lent, verdictModel, judged}
+use Rattle.checks.specs.Encoding.{headChecks}
 use Rattle.checks.proofs.Verdicts.{passed-of-done, passed-left}
-use Rattle.checks.proofs.Walks.{goes-on, stops, slices-of-shape}
+use Rattle.checks.proofs.VerdictParts.{goes-on, stops, slices-of-shape}
 use Rattle.checks.proofs.Recording.{records-closed}
 use borrow.Author.Needs.{needs}
 use Rattle.checks.proofs.check_table.Statement.{statement}
@@ -22,7 +22,7 @@ returns : tie.Need-returns
 unfolding sizeChecks
 returns c =
     let a = c .before .before .before .before .before .before .before .before .args in
-    ap meant (c .enum-told .given .1) ∙ sym (stops (c .before .before .check-head .result) (headChecks (lent (a .width .now) (a .lock .now) (a .mask .now) (a .value .now) (a .words .now))) (rowChecks (lent (a .width .now) (a .lock .now) (a .mask .now) (a .value .now) (a .words .now)) ++ recordChecks (lent (a .width .now) (a .lock .now) (a .mask .now) (a .value .now) (a .words .now))) (c .before .before .check-head .ensures) _ (c .enum-told .given .1))
+    ap verdictModel (c .enum-told .given .1) ∙ sym (stops (c .before .before .check-head .result) (headChecks (lent (a .width .now) (a .lock .now) (a .mask .now) (a .value .now) (a .words .now))) (rowChecks (lent (a .width .now) (a .lock .now) (a .mask .now) (a .value .now) (a .words .now)) ++ recordChecks (lent (a .width .now) (a .lock .now) (a .mask .now) (a .value .now) (a .words .now))) (c .before .before .check-head .ensures) _ (c .enum-told .given .1))
 
 enum-told-2 : tie.Need-enum-told-2
 enum-told-2 c = search needs
@@ -30,7 +30,7 @@ enum-told-2 c = search needs
 check-body-requires : tie.Need-check-body-requires
 check-body-requires c κs =
     let a = c .before .before .before .before .before .before .before .before .args in
-    slices-of-shape (lent (a .width .now) (a .lock .now) (a .mask .now) (a .value .now) (a .words .now)) (passed-left (placed 0 (rowShapeFaults (lent (a .width .now) (a .lock .now) (a .mask .now) (a .value .now) (a .words .now)))) (placed 0 (wordFaults (lent (a .width .now) (a .lock .now) (a .mask .now) (a .value .now) (a .words .now)))) (passed-of-done (headChecks (lent (a .width .now) (a .lock .now) (a .mask .now) (a .value .now) (a .words .now))) tt tt (sym (c .before .before .check-head .ensures) ∙ ap meant (c .enum-told2 .given .1))))
+    slices-of-shape (lent (a .width .now) (a .lock .now) (a .mask .now) (a .value .now) (a .words .now)) (passed-left (placed 0 (rowShapeFaults (lent (a .width .now) (a .lock .now) (a .mask .now) (a .value .now) (a .words .now)))) (placed 0 (wordFaults (lent (a .width .now) (a .lock .now) (a .mask .now) (a .value .now) (a .words .now)))) (passed-of-done (headChecks (lent (a .width .now) (a .lock .now) (a .mask .now) (a .value .now) (a .words .now))) tt tt (sym (c .before .before .check-head .ensures) ∙ ap verdictModel (c .enum-told2 .given .1))))
 
 returns-2 : tie.Need-returns-2
 unfolding sizeChecks

@@ -2,9 +2,9 @@
 use mathlib.Core.Path.{_≡_, refl, sym, ap, _∙_}
 use native.Mathlib.Omega.{arith}
 use lib.Seq.{length-take-le}
-use Rattle.checks.specs.Meant.{lent}
+use Rattle.checks.specs.Model.{lent}
 use Rattle.texts.specs.Calls.{readOf}
-use Rattle.texts.specs.Meant.{readLeft}
+use Rattle.texts.specs.Model.{readLeft}
 use Rattle.texts.specs.declared.ReadAnswer.{ReadAnswer}
 use Rattle.texts.specs.declared.ReadAnswer.the-variants.{Read}
 use Rattle.texts.proofs.TripCalls.{Room, read-room}

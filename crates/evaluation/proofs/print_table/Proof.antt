@@ -1,9 +1,9 @@
 -- `evaluation::print_table` meets its contract: run, then the table's text or the refusal's line. Assumes nothing.
 use mathlib.Core.Path.{sym, ap, _∙_}
-use Rattle.checks.specs.Meant.{lent}
-use Rattle.tables.specs.Meant.{held, ran}
+use Rattle.checks.specs.Model.{lent}
+use Rattle.tables.specs.Model.{held, ran}
 use Rattle.tables.specs.declared.RunAnswer.{RunAnswer}
-use Rattle.texts.specs.Meant.{writeLeft}
+use Rattle.texts.specs.Model.{writeLeft}
 use Rattle.texts.specs.declared.BytesAnswer.{BytesAnswer}
 use Rattle.evaluation.proofs.Printed.{printed-refused, printed-as, print-written, never-refused}
 use borrow.Author.Needs.{needs}

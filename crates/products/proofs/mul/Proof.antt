@@ -28,7 +28,7 @@ returns-2 : tie.Need-returns-2
 returns-2 c =
     let s = c .before .before .before .before in
     let a = s .args in
-    planes-of (a .w) (a .ma) (a .va) (a .mb) (a .vb) (c .before .unknown-below .result) (c .product2 .result) (formed s) (c .product2 .ensures)
+    planes-of (a .w) (a .ma) (a .va) (a .mb) (a .vb) (c .before .unknown-below .result) (c .product2 .result) (formed s) (c .before .unknown-below .ok) (c .product2 .ensures)
     (c .before .unknown-below .ensures) (c .before .before .width-mask2 .result) (c .before .before .width-mask2 .ensures)
 
 pub mul-spec : {M : Type 1} → statement M

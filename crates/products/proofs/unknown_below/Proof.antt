@@ -2,24 +2,16 @@
 use borrow.Author.Needs.{needs}
 use mathlib.Core.Path.{sym, ap, subst}
 use Prim.Native.Nat.{ℕ, _-_, _^_, _<_}
-use native.Mathlib.Omega.{arith}
 use lib.Bits.{bitAnd, bitOr, mask-lt}
-use lib.Count.{ones-le}
 use Rattle.products.proofs.Unsettled.{granted-below, settled-or-worked}
 use Rattle.products.proofs.unknown_below.Statement.{statement}
 use Rattle.products.proofs.unknown_below.Tie as tie
 
-add-if1 : tie.Need-add-if1
-add-if1 c =
-    let x = ones-le 32 (c .args .ma) (c .fits .ma .fits) in
-    let y = ones-le 32 (c .args .mb) (c .fits .mb .fits) in
-    record { fits = omega arith }
-
 returns : tie.Need-returns
 returns c k h = let s = c .before .before in sym (c .by-every-choice .ensures (s .args .w) (s .pre .1) k h)
 
-unknown-among-requires : tie.Need-unknown-among-requires
-unknown-among-requires c κs =
+unknown-open-requires : tie.Need-unknown-open-requires
+unknown-open-requires c κs =
     let s = c .before .before .before .before in
     let a = s .args in
     let x = 2 ^ 32 - 1 - bitOr (c .before .before .unknown-columns .result) (c .before .known-columns .result) in
@@ -34,18 +26,17 @@ returns-2 c =
     let n = c .before .before .known-columns in
     let x = 2 ^ 32 - 1 - bitOr (d .result) (n .result) in
     let e = ap (bitAnd x) (c .before .width-mask .ensures) in
-    settled-or-worked (a .w) (a .ma) (a .va) (a .mb) (a .vb) (d .result) (n .result) _ (c .unknown-among .result) F (d .ok) (n .ok) (d .ensures) (n .ensures) e
-    (c .unknown-among .ensures (a .w) F (subst (λ (y : ℕ). y < 2 ^ a .w) (sym e) (mask-lt x (a .w))))
+    settled-or-worked (a .w) (a .ma) (a .va) (a .mb) (a .vb) (d .result) (n .result) _ (c .unknown-open .result) F (d .ok) (n .ok) (d .ensures) (n .ensures) e
+    (c .unknown-open .ensures (a .w) F (subst (λ (y : ℕ). y < 2 ^ a .w) (sym e) (mask-lt x (a .w))))
 
 pub unknown-below-spec : {M : Type 1} → statement M
 unknown-below-spec =
     tie.close
     (tie.spec
-    add-if1
     (λ c κs. search needs)
     returns
     (λ c κs. search needs)
     (λ c κs. search needs)
     (λ c κs. search needs)
-    unknown-among-requires
+    unknown-open-requires
     returns-2)

@@ -4,7 +4,7 @@ use mathlib.Core.Path.{ap, _∙_}
 use native.Mathlib.Omega.{arith}
 use denote.Ref.{ptr}
 use Rattle.grammar.specs.Cut.{Part}
-use Rattle.lines.specs.Meant.{lies}
+use Rattle.lines.specs.Model.{lies}
 use Rattle.rifflerleek.proofs.Starts.{bytes-found, end-inside, ends-found}
 use Rattle.rifflerleek.proofs.rifflerleek_field.Statement.{statement}
 use Rattle.rifflerleek.proofs.rifflerleek_field.Tie as tie

@@ -1,9 +1,9 @@
 -- `rifflerleek::rifflerleek_read` meets its contract: what read answers and leaves, in the host's struct. Assumes nothing.
 use borrow.Author.Needs.{needs}
 use mathlib.Core.Path.{sym, ap, _∙_}
-use Rattle.checks.specs.Meant.{lent}
+use Rattle.checks.specs.Model.{lent}
 use Rattle.texts.specs.declared.ReadAnswer.{ReadAnswer}
-use Rattle.texts.specs.Meant.{readLeft}
+use Rattle.texts.specs.Model.{readLeft}
 use Rattle.rifflerleek.specs.declared.Answer.{Answer}
 use Rattle.rifflerleek.specs.Host.{outcome, hostRead}
 use Rattle.rifflerleek.proofs.rifflerleek_read.Statement.{statement}

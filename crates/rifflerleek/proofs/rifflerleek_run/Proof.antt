@@ -1,6 +1,6 @@
 -- `rifflerleek::rifflerleek_run` meets its contract: what run answers and leaves, in the host's struct. Assumes nothing.
 use borrow.Author.Needs.{needs}
-use Rattle.checks.specs.Meant.{lent}
+use Rattle.checks.specs.Model.{lent}
 use Rattle.tables.specs.declared.RunAnswer.the-variants.{Done, Refused}
 use Rattle.rifflerleek.proofs.Runs.{run-hosted}
 use Rattle.rifflerleek.proofs.rifflerleek_run.Statement.{statement}

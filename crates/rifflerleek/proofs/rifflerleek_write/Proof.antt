@@ -2,7 +2,7 @@
 use borrow.Author.Needs.{needs}
 use mathlib.Core.Path.{sym, ap, _∙_}
 use Rattle.texts.specs.declared.BytesAnswer.{BytesAnswer}
-use Rattle.texts.specs.Meant.{writeLeft}
+use Rattle.texts.specs.Model.{writeLeft}
 use Rattle.rifflerleek.specs.declared.Answer.{Answer}
 use Rattle.rifflerleek.specs.Host.{outcome, hostWritten}
 use Rattle.rifflerleek.proofs.rifflerleek_write.Statement.{statement}

@@ -2,7 +2,7 @@
 use mathlib.Core.Path.{sym, ap, _∙_}
 use native.Mathlib.Omega.{arith}
 use Rattle.checks.specs.Accepted.{Accepted}
-use Rattle.checks.specs.Meant.{lent, meant}
+use Rattle.checks.specs.Model.{lent, verdictModel}
 use Rattle.tables.proofs.StretchLaws.{part-ready, part-after}
 use Rattle.tables.proofs.RunLaws.{never-done, refused-run, accepted-run, done-run, demand3-left}
 use borrow.Author.Needs.{needs}
@@ -15,12 +15,12 @@ told : (c : tie.After-enum-told) →
     Accepted (lent (a .width .now) (a .lock .now) (a .mask .now) (a .value .now) (a .words .now)) (a .first) (a .last)
 told c =
     let a = c .before .before .before .before .before .before .before .before .before .before .args in
-    accepted-run (lent (a .width .now) (a .lock .now) (a .mask .now) (a .value .now) (a .words .now)) (a .first) (a .last) (sym (c .before .before .check-run .ensures) ∙ ap meant (c .enum-told .given .1))
+    accepted-run (lent (a .width .now) (a .lock .now) (a .mask .now) (a .value .now) (a .words .now)) (a .first) (a .last) (sym (c .before .before .check-run .ensures) ∙ ap verdictModel (c .enum-told .given .1))
 
 returns : tie.Need-returns
 returns c =
     let a = c .before .before .before .before .before .before .before .before .before .before .before .args in
-    let e = sym (c .before .before .before .check-run .ensures) ∙ ap meant (c .before .r .given .1) in
+    let e = sym (c .before .before .before .check-run .ensures) ∙ ap verdictModel (c .before .r .given .1) in
     (refused-run (lent (a .width .now) (a .lock .now) (a .mask .now) (a .value .now) (a .words .now)) (a .first) (a .last) _ _ e, λ z. absurd (never-done _ _ _ z))
 
 mul-start : tie.Need-mul-start

@@ -4,7 +4,7 @@ use denote.Ref.{ptr, now}
 use Rattle.grammar.specs.Words.{lf, tab}
 use Rattle.grammar.specs.Cut.{Part, partAt, partEnds, between, fieldEnds, fieldOf}
 use Rattle.grammar.proofs.Parts.{part-within}
-use Rattle.lines.specs.Meant.{lies}
+use Rattle.lines.specs.Model.{lies}
 use Rattle.lines.proofs.Scans.{part-part}
 use borrow.Author.Needs.{needs}
 use Rattle.texts.proofs.field.Statement.{statement}

@@ -1,5 +1,5 @@
 -- `texts::read`: the checks in their order, then the two fills. Assumes nothing.
-use Rattle.checks.specs.Meant.{lent}
+use Rattle.checks.specs.Model.{lent}
 use Rattle.texts.proofs.ReadCall.{refuse-locks, refuse-masks, refuse-values, refuse-length, refuse-line, refuse-rows, refuse-words, rows-wait, records-wait, accept}
 use borrow.Author.Needs.{needs}
 use Rattle.texts.proofs.read.Statement.{statement}

@@ -1,6 +1,6 @@
 -- `texts::size`, by the verdict of the checks. Assumes nothing.
 use native.Mathlib.Omega.{arith}
-use Rattle.checks.specs.Meant.{lent}
+use Rattle.checks.specs.Model.{lent}
 use Rattle.texts.proofs.WriteCall.{size-refused, size-passed, size-done}
 use borrow.Author.Needs.{needs}
 use Rattle.texts.proofs.size.Statement.{statement}

@@ -1,5 +1,5 @@
 -- `texts::write`: size's checks, then the buffer, then the rows and the records. Assumes nothing.
-use Rattle.checks.specs.Meant.{lent}
+use Rattle.checks.specs.Model.{lent}
 use Rattle.texts.proofs.WriteCall.{write-refused, write-short, rows-fit, rows-room, records-fit, records-room, write-done}
 use borrow.Author.Needs.{needs}
 use Rattle.texts.proofs.write.Statement.{statement}

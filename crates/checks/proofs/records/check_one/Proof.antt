@@ -7,11 +7,11 @@ use lib.ListN.{getD}
 use Rattle.operations.specs.Record.{targetWord, recordFaults}
 use Rattle.checks.specs.Check.{placed}
 use Rattle.checks.specs.Table.{recordOf}
-use Rattle.checks.specs.Meant.{lent, meant, judged}
-use Rattle.checks.specs.Coded.{lockWith}
+use Rattle.checks.specs.Model.{lent, verdictModel, judged}
+use Rattle.checks.specs.Encoding.{lockWith}
 use Rattle.checks.proofs.Verdicts.{passed-of-done}
 use Rattle.checks.proofs.RowChecks.{record-of-passed}
-use Rattle.checks.proofs.Walks.{goes-on, stops}
+use Rattle.checks.proofs.VerdictParts.{goes-on, stops}
 use Rattle.checks.proofs.Naming.{record-words}
 use Rattle.checks.proofs.Recording.{lock-target}
 use borrow.Author.Needs.{needs}
@@ -21,7 +21,7 @@ use Rattle.checks.proofs.records.check_one.Tie as tie
 -- what the record's own verdict says of the words that are lent
 found : (c : tie.After-check-record) →
     let a = c .before .before .before .before .before .before .before .before .before .args in
-    meant (c .check-record .result) ≡ judged (placed (a .i) (recordFaults (a .width .now) (recordOf (lent (a .width .now) (a .lock .now) [] [] (a .words .now)) (a .i))))
+    verdictModel (c .check-record .result) ≡ judged (placed (a .i) (recordFaults (a .width .now) (recordOf (lent (a .width .now) (a .lock .now) [] [] (a .words .now)) (a .i))))
 found c =
     let a = c .before .before .before .before .before .before .before .before .before .args in
     c .check-record .ensures
@@ -33,13 +33,13 @@ enum-told c = search needs
 returns : tie.Need-returns
 returns c =
     let a = c .before .before .before .before .before .before .before .before .before .before .before .args in
-    ap meant (c .enum-told .given .1)
+    ap verdictModel (c .enum-told .given .1)
     ∙ sym (stops (c .before .before .check-record .result) (placed (a .i) (recordFaults (a .width .now) (recordOf (lent (a .width .now) (a .lock .now) [] [] (a .words .now)) (a .i)))) (lockWith (a .locked) (a .lock .now) (recordOf (lent (a .width .now) (a .lock .now) [] [] (a .words .now)) (a .i)) (a .i)) (found (c .before .before)) _ (c .enum-told .given .1))
 
 check-lock-requires : tie.Need-check-lock-requires
 check-lock-requires c κs =
     let a = c .before .before .before .before .before .before .before .before .before .before .before .args in
-    let t = record-of-passed (a .width .now) (recordOf (lent (a .width .now) (a .lock .now) [] [] (a .words .now)) (a .i)) (a .i) (passed-of-done (placed (a .i) (recordFaults (a .width .now) (recordOf (lent (a .width .now) (a .lock .now) [] [] (a .words .now)) (a .i)))) tt tt (sym (found (c .before .before)) ∙ ap meant (c .enum-told2 .given .1))) .target-in in
+    let t = record-of-passed (a .width .now) (recordOf (lent (a .width .now) (a .lock .now) [] [] (a .words .now)) (a .i)) (a .i) (passed-of-done (placed (a .i) (recordFaults (a .width .now) (recordOf (lent (a .width .now) (a .lock .now) [] [] (a .words .now)) (a .i)))) tt tt (sym (found (c .before .before)) ∙ ap verdictModel (c .enum-told2 .given .1))) .target-in in
     let e = ap targetWord (record-words (a .words .now) (5 * a .i) (omega arith)) in
     omega arith
 

@@ -5,9 +5,9 @@ use mathlib.Core.List.{[], _∷_}
 use lib.ListN.{length}
 use Rattle.operations.specs.Record.{fault, namedFaults, recordFaults, widthsFit}
 use Rattle.checks.specs.Check.{placed}
-use Rattle.checks.specs.Meant.{meant}
+use Rattle.checks.specs.Model.{verdictModel}
 use Rattle.checks.proofs.Verdicts.{passed-of-done}
-use Rattle.checks.proofs.Walks.{goes-on, stops}
+use Rattle.checks.proofs.VerdictParts.{goes-on, stops}
 use Rattle.checks.proofs.Naming.{passed-anywhere}
 use Rattle.checks.proofs.Recording.{fits-passed, fits-refused}
 use borrow.Author.Needs.{needs}
@@ -21,14 +21,14 @@ returns : tie.Need-returns
 unfolding recordFaults
 returns c =
     let a = c .before .before .before .before .args in
-    ap meant (c .enum-told .given .1) ∙ sym (stops (c .before .before .check-named .result) (placed (a .i) (namedFaults (length (a .width .now)) (a .kind ∷ a .t ∷ a .a ∷ a .b ∷ a .p ∷ []))) (placed (a .i) (fault (not (widthsFit (a .width .now) (a .kind ∷ a .t ∷ a .a ∷ a .b ∷ a .p ∷ []))) 9 ∷ [])) (c .before .before .check-named .ensures) _ (c .enum-told .given .1))
+    ap verdictModel (c .enum-told .given .1) ∙ sym (stops (c .before .before .check-named .result) (placed (a .i) (namedFaults (length (a .width .now)) (a .kind ∷ a .t ∷ a .a ∷ a .b ∷ a .p ∷ []))) (placed (a .i) (fault (not (widthsFit (a .width .now) (a .kind ∷ a .t ∷ a .a ∷ a .b ∷ a .p ∷ []))) 9 ∷ [])) (c .before .before .check-named .ensures) _ (c .enum-told .given .1))
 
 record-fits-requires : tie.Need-record-fits-requires
 record-fits-requires c κs =
     let a = c .before .before .before .before .args in
     record {
       few = c .before .before .before .before .pre;
-      passed = passed-anywhere (a .i) 0 (namedFaults (length (a .width .now)) (a .kind ∷ a .t ∷ a .a ∷ a .b ∷ a .p ∷ [])) (passed-of-done (placed (a .i) (namedFaults (length (a .width .now)) (a .kind ∷ a .t ∷ a .a ∷ a .b ∷ a .p ∷ []))) tt tt (sym (c .before .before .check-named .ensures) ∙ ap meant (c .enum-told2 .given .1)));
+      passed = passed-anywhere (a .i) 0 (namedFaults (length (a .width .now)) (a .kind ∷ a .t ∷ a .a ∷ a .b ∷ a .p ∷ [])) (passed-of-done (placed (a .i) (namedFaults (length (a .width .now)) (a .kind ∷ a .t ∷ a .a ∷ a .b ∷ a .p ∷ []))) tt tt (sym (c .before .before .check-named .ensures) ∙ ap verdictModel (c .enum-told2 .given .1)));
     }
 
 returns-2 : tie.Need-returns-2

@@ -6,9 +6,9 @@ use native.Mathlib.Omega.{arith}
 use borrow.Author.Needs.{needs}
 use lib.ListN.{length}
 use Rattle.checks.specs.Check.{rising}
-use Rattle.checks.specs.Meant.{lent, meant, judged}
-use Rattle.checks.specs.Coded.{recordWith, recordsWith}
-use Rattle.checks.proofs.Walks.{goes-on, stops, rest, rest-start, rest-step, rest-end}
+use Rattle.checks.specs.Model.{lent, verdictModel, judged}
+use Rattle.checks.specs.Encoding.{recordWith, recordsWith}
+use Rattle.checks.proofs.VerdictParts.{goes-on, stops, rest, rest-start, rest-step, rest-end}
 use Rattle.checks.proofs.records.check_records.Statement.{statement}
 use Rattle.checks.proofs.records.check_records.Tie as tie
 
@@ -32,7 +32,7 @@ returns c =
     let h = c .before .before .before .loop-test .taken in
     let f = (recordWith (a .locked) (lent (a .width .now) (a .lock .now) [] [] (a .words .now))) in
     let n = length (a .words .now) / 5 in
-    ap meant (c .enum-told2 .given .1)
+    ap verdictModel (c .enum-told2 .given .1)
     ∙ sym (l .inv .1 ∙ rest-step f n (l .i) h ∙ stops (c .before .before .check-one .result) (f (l .i)) (rising f (l .i + 1) (n - (l .i + 1))) (c .before .before .check-one .ensures) _ (c .enum-told2 .given .1))
 
 loop-again : tie.Need-loop-again Inv-loop μ-loop

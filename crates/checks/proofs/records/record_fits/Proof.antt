@@ -1,92 +1,76 @@
 -- `checks::records::record_fits` meets its contract: the widths of the rows that the words name. Assumes nothing.
-use mathlib.Core.Path.{sym, ap, _∙_}
-use Prim.Native.Nat.{ℕ}
+use mathlib.Core.Path.{_≡_, sym, ap, _∙_}
+use mathlib.Core.List.{[], _∷_}
+use Prim.Native.Nat.{ℕ, _≤_}
 use native.Mathlib.Omega.{arith}
-use lib.ListN.{length, getD}
-use Rattle.operations.specs.Kinds.{kindOf}
-use Rattle.checks.specs.Coded.{useCode, usedWidth}
-use Rattle.checks.proofs.Naming.{named-facts}
-use Rattle.checks.proofs.Rules.{fits-of}
+use lib.ListN.{length}
 use borrow.Author.Needs.{needs}
+use Rattle.operations.specs.Kind.{asks, asRow}
+use Rattle.operations.specs.Kinds.{kindOf}
+use Rattle.operations.specs.Record.{widthAt}
+use Rattle.operations.specs.Encoding.{ruleCode, ruleNumbered}
+use Rattle.operations.proofs.Digits.{code-below}
+use Rattle.checks.proofs.Naming.{NamedFacts, named-facts}
+use Rattle.checks.proofs.Rules.{reads-of, fits-of}
 use Rattle.checks.proofs.records.record_fits.Statement.{statement}
 use Rattle.checks.proofs.records.record_fits.Tie as tie
 
-shared-slice-read-wide : tie.Need-shared-slice-read-wide
-shared-slice-read-wide c =
-    let a = c .before .before .before .before .before .args in
-    let n = named-facts (length (a .width .now)) (a .kind) (a .t) (a .a) (a .b) (a .p) (c .before .before .before .before .before .pre) in
-    let e = c .before .before .index2 .ensures in let h = n .target-in in omega arith
+facts : (s : tie.Start) → NamedFacts (length (s .args .width .now)) (s .args .kind) (s .args .t) (s .args .a) (s .args .b) (s .args .p)
+facts s = named-facts (length (s .args .width .now)) (s .args .kind) (s .args .t) (s .args .a) (s .args .b) (s .args .p) (s .pre)
 
-shared-slice-read-wide-2 : tie.Need-shared-slice-read-wide-2
-shared-slice-read-wide-2 c =
-    let a = c .before .before .before .before .before .before .before .args in
-    let n = named-facts (length (a .width .now)) (a .kind) (a .t) (a .a) (a .b) (a .p) (c .before .before .before .before .before .before .before .pre) in
-    let e = c .before .before .before .index3 .ensures in let h = n .first-in in omega arith
+width-at-requires : tie.Need-width-at-requires
+width-at-requires c κs = let h = facts (c .before .before) .target-in in omega (arith, c .index .ensures)
 
-second-use-requires : tie.Need-second-use-requires
-second-use-requires c κs =
-    let a = c .before .before .before .before .before .before .before .before .args in
-    let n = named-facts (length (a .width .now)) (a .kind) (a .t) (a .a) (a .b) (a .p) (c .before .before .before .before .before .before .before .before .pre) in
-    let e = c .before .before .before .before .before .before .index .ensures in let h = n .kind-below-21 in omega arith
+width-at-requires-2 : tie.Need-width-at-requires-2
+width-at-requires-2 c κs = let h = facts (c .before .before .before .before) .first-in in omega (arith, c .index2 .ensures)
 
-used-width-requires : tie.Need-used-width-requires
-used-width-requires c κs =
-    let a = c .before .before .before .before .before .before .before .before .before .before .args in
-    let n = named-facts (length (a .width .now)) (a .kind) (a .t) (a .a) (a .b) (a .p) (c .before .before .before .before .before .before .before .before .before .before .pre) in
-    λ e. let h = n .second-in (sym (c .before .second-use .ensures ∙ ap (λ (x : ℕ). useCode (kindOf x .use-b)) (c .before .before .before .before .before .before .before .before .index .ensures)) ∙ e) in omega (arith, c .index4 .ensures)
+rule-requires : tie.Need-rule-requires
+rule-requires c κs = facts (c .before .before .before .before .before) .known
 
-parameter-use-requires : tie.Need-parameter-use-requires
-parameter-use-requires c κs =
-    let a = c .before .before .before .before .before .before .before .before .before .before .before .args in
-    let n = named-facts (length (a .width .now)) (a .kind) (a .t) (a .a) (a .b) (a .p) (c .before .before .before .before .before .before .before .before .before .before .before .pre) in
-    let e = c .before .before .before .before .before .before .before .before .before .index .ensures in let h = n .kind-below-21 in omega arith
-
-used-width-requires-2 : tie.Need-used-width-requires-2
-used-width-requires-2 c κs =
-    let a = c .before .before .before .before .before .before .before .before .before .before .before .before .before .args in
-    let n = named-facts (length (a .width .now)) (a .kind) (a .t) (a .a) (a .b) (a .p) (c .before .before .before .before .before .before .before .before .before .before .before .before .before .pre) in
-    λ e. let h = n .parameter-in (sym (c .before .parameter-use .ensures ∙ ap (λ (x : ℕ). useCode (kindOf x .use-p)) (c .before .before .before .before .before .before .before .before .before .before .before .index .ensures)) ∙ e) in omega (arith, c .index5 .ensures)
-
-widths-fit-requires : tie.Need-widths-fit-requires
-widths-fit-requires c κs =
-    let a = c .before .before .before .before .before .before .before .before .before .before .before .before .before .before .args in
-    let n = named-facts (length (a .width .now)) (a .kind) (a .t) (a .a) (a .b) (a .p) (c .before .before .before .before .before .before .before .before .before .before .before .before .before .before .pre) in
-    let e = c .before .before .before .before .before .before .before .before .before .before .before .before .index .ensures in
-    let h = n .kind-below-21 in
-    let x = c .before .before .before .before .before .before .before .before .wide .ensures in
-    let y = c .before .before .before .before .before .before .wide2 .ensures in
-    let x′ = c .before .before .before .before .before .before .before .before .before .shared-slice-known2 .given (c .before .before .before .before .before .before .before .before .before .before .before .index2 .result) in
-    let y′ = c .before .before .before .before .before .before .before .shared-slice-known3 .given (c .before .before .before .before .before .before .before .before .before .before .index3 .result) in
-    let z = c .before .before .before .used-width .ensures .0 in
-    let u = n .parameter-small in
-    (omega arith, omega arith, omega arith, omega arith, omega arith)
+rule-fits-requires : tie.Need-rule-fits-requires
+rule-fits-requires c κs =
+    let r = c .before .before in
+    let w2 = r .before in
+    let w1 = w2 .before .before in
+    let s = w1 .before .before .before in
+    let f = facts s in
+    let h = code-below (kindOf (s .args .kind) .rule) in
+    let e = r .rule .ensures in
+    let eb = c .before .index3 .ensures in
+    let ep = c .index4 .ensures in
+    let small = f .parameter-small in (
+      omega arith,
+      w1 .width-at .ensures .0,
+      w2 .width-at2 .ensures .0,
+      omega arith,
+      reads-of (s .args .kind) (f .known) (r .rule .result) e (length (s .args .width .now)) (c .before .index3 .result) (c .index4 .result) (λ u. let z = f .second-in u in omega arith) (λ u. let z = f .parameter-in u in omega arith),
+    )
 
 returns : tie.Need-returns
 returns c =
-    let a = c .before .before .before .before .before .before .before .before .before .before .before .before .before .before .before .args in
-    let n = named-facts (length (a .width .now)) (a .kind) (a .t) (a .a) (a .b) (a .p) (c .before .before .before .before .before .before .before .before .before .before .before .before .before .before .before .pre) in
-    let wt = c .before .before .before .before .before .before .before .before .before .wide .ensures ∙ ap (λ (x : ℕ). getD (a .width .now) x 0) (c .before .before .before .before .before .before .before .before .before .before .before .before .index2 .ensures) in
-    let wa = c .before .before .before .before .before .before .before .wide2 .ensures ∙ ap (λ (x : ℕ). getD (a .width .now) x 0) (c .before .before .before .before .before .before .before .before .before .before .before .index3 .ensures) in
-    let wb = c .before .before .before .before .used-width .ensures .1 (kindOf (a .kind) .use-b) (c .before .before .before .before .before .before .second-use .ensures ∙ ap (λ (x : ℕ). useCode (kindOf x .use-b)) (c .before .before .before .before .before .before .before .before .before .before .before .before .before .index .ensures)) ∙ ap (usedWidth (a .width .now) (kindOf (a .kind) .use-b)) (c .before .before .before .before .before .index4 .ensures) in
-    let wc = c .before .used-width2 .ensures .1 (kindOf (a .kind) .use-p) (c .before .before .before .parameter-use .ensures ∙ ap (λ (x : ℕ). useCode (kindOf x .use-p)) (c .before .before .before .before .before .before .before .before .before .before .before .before .before .index .ensures)) ∙ ap (usedWidth (a .width .now) (kindOf (a .kind) .use-p)) (c .before .before .index5 .ensures) in
-    fits-of (a .width .now) (a .kind) (a .t) (a .a) (a .b) (a .p) (n .kind-below-21) _ _ _ _ _ _ (c .before .before .before .before .before .before .before .before .before .before .before .before .before .index .ensures) wt wa wb wc (c .widths-fit .ensures)
+    let i4 = c .before in
+    let r = i4 .before .before in
+    let w2 = r .before in
+    let w1 = w2 .before .before in
+    let s = w1 .before .before .before in
+    let a = s .args in
+    let ws = a .width .now in
+    let et = w1 .width-at .ensures .1 ∙ ap (widthAt ws) (w1 .before .index .ensures) in
+    let ea = w2 .width-at2 .ensures .1 ∙ ap (widthAt ws) (w2 .before .index2 .ensures) in
+    fits-of (a .kind) (facts s .known) (r .rule .result) (r .rule .ensures) ws (a .t) (a .a) (a .b) (a .p) (c .rule-fits .result)
+    (c .rule-fits .ensures
+    ∙ (λ ι. asks (ruleNumbered (r .rule .result)) (et ι) (ea ι ∷ widthAt ws (i4 .before .index3 .ensures ι) ∷ widthAt ws (i4 .index4 .ensures ι) ∷ []) (i4 .index4 .ensures ι)))
 
 pub record-fits-spec : {M : Type 1} → statement M
 record-fits-spec =
     tie.close
     (tie.spec
     (λ c κs. search needs)
+    width-at-requires
+    (λ c κs. search needs)
+    width-at-requires-2
+    rule-requires
     (λ c κs. search needs)
     (λ c κs. search needs)
-    shared-slice-read-wide
-    (λ c κs. search needs)
-    shared-slice-read-wide-2
-    (λ c κs. search needs)
-    second-use-requires
-    (λ c κs. search needs)
-    used-width-requires
-    parameter-use-requires
-    (λ c κs. search needs)
-    used-width-requires-2
-    widths-fit-requires
+    rule-fits-requires
     returns)

@@ -1,7 +1,7 @@
 -- `checks::rows::check_row` meets its contract: checks 4 and 5, test by test. Assumes nothing.
 use borrow.Author.Tests.{eq-eqb, ne-eqb, lt-ltb, le-ltb, le-leb, lt-leb}
 use Rattle.checks.specs.Check.{verdict}
-use Rattle.checks.proofs.Walks.{over-mask, under-mask}
+use Rattle.checks.proofs.VerdictParts.{over-mask, under-mask}
 use borrow.Author.Needs.{needs}
 use Rattle.checks.proofs.rows.check_row.Statement.{statement}
 use Rattle.checks.proofs.rows.check_row.Tie as tie

@@ -5,8 +5,8 @@ use Prim.Native.Nat.{ℕ, _+_, _-_, _≤_}
 use lib.ListN.{length, getD}
 use Rattle.checks.specs.Check.{Check, placed, rising}
 use Rattle.checks.specs.Checks.{rowFaults, rowFaultsAt, rowChecks}
-use Rattle.checks.specs.Meant.{lent, meant, judged}
-use Rattle.checks.proofs.Walks.{goes-on, stops, rest, rest-start, rest-step, rest-end}
+use Rattle.checks.specs.Model.{lent, verdictModel, judged}
+use Rattle.checks.proofs.VerdictParts.{goes-on, stops, rest, rest-start, rest-step, rest-end}
 use borrow.Author.Needs.{needs}
 use native.Mathlib.Omega.{arith}
 use Rattle.checks.proofs.rows.check_rows.Statement.{statement}
@@ -29,7 +29,7 @@ loop-holds c = let a = c .before .before .before .before .args in (omega arith, 
 -- what the row's own verdict says of the rows that are lent
 found : (c : tie.After-check-row Inv-loop μ-loop) →
     let a = c .before .before .before .before .before .before .before .before .before .before .before .before .args in
-    meant (c .check-row .result) ≡ judged (faults (a .width .now) (a .lock .now) (a .mask .now) (a .value .now) (c .before .before .before .before .before .before .before .loop .i))
+    verdictModel (c .check-row .result) ≡ judged (faults (a .width .now) (a .lock .now) (a .mask .now) (a .value .now) (c .before .before .before .before .before .before .before .loop .i))
 found c =
     let a = c .before .before .before .before .before .before .before .before .before .before .before .before .args in
     let i = c .before .before .before .before .before .before .before .loop .i in
@@ -42,7 +42,7 @@ returns c =
     let a = c .before .before .before .before .before .before .before .before .before .before .before .before .before .before .args in
     let f = faults (a .width .now) (a .lock .now) (a .mask .now) (a .value .now) in
     let n = length (a .width .now) in
-    ap meant (c .enum-told2 .given .1)
+    ap verdictModel (c .enum-told2 .given .1)
     ∙ sym (l .inv .1 ∙ rest-step f n (l .i) h ∙ stops (c .before .before .check-row .result) (f (l .i)) (rising f (l .i + 1) (n - (l .i + 1))) (found (c .before .before)) _ (c .enum-told2 .given .1))
 
 loop-again : tie.Need-loop-again Inv-loop μ-loop

@@ -6,7 +6,7 @@ use denote.Ref.{ptr, now}
 use Rattle.grammar.specs.Lists.{same}
 use Rattle.grammar.specs.Words.{tab, rowWord, opWord}
 use Rattle.grammar.specs.Cut.{pieces}
-use Rattle.lines.specs.Meant.{lies, lineMeant}
+use Rattle.lines.specs.Model.{lies, lineModel}
 use Rattle.lines.proofs.Scans.{part-bytes}
 use Rattle.lines.proofs.ReadLines.{line-short-row, line-row, line-short-record, line-record, line-other}
 use borrow.Author.Needs.{needs}
@@ -39,7 +39,7 @@ returns-2 c =
     let lock = part-bytes (lies (ptr (p10 .args .l)) (now (p10 .args .l))) (lies (ptr (p2 .part2 .result)) (now (p2 .part2 .result))) tab 2 (p2 .part2 .ensures) in
     let letters = part-bytes (lies (ptr (p10 .args .l)) (now (p10 .args .l))) (lies (ptr (c .before .part3 .result)) (now (c .before .part3 .result))) tab 3 (c .before .part3 .ensures) in
     line-row (pieces tab l) (p5 .is-word .result) _ is-row refl (p4 .if1 .taken) (sym (p8 .count-parts .ensures) ∙ p3 .if2 .left)
-    _ _ lock letters (lineMeant (c .row-line .result)) (c .row-line .ensures)
+    _ _ lock letters (lineModel (c .row-line .result)) (c .row-line .ensures)
 
 returns-3 : tie.Need-returns-3
 returns-3 c =
@@ -79,7 +79,7 @@ returns-4 c =
     let b = part-bytes (lies (ptr (p16 .args .l)) (now (p16 .args .l))) (lies (ptr (p2 .part7 .result)) (now (p2 .part7 .result))) tab 5 (p2 .part7 .ensures) in
     let p = part-bytes (lies (ptr (p16 .args .l)) (now (p16 .args .l))) (lies (ptr (c .before .part8 .result)) (now (c .before .part8 .result))) tab 6 (c .before .part8 .ensures) in
     line-record (pieces tab l) (p11 .is-word .result) (p8 .is-word2 .result) is-row is-op (p10 .if1 .left) (p7 .if3 .taken) (sym (p14 .count-parts .ensures) ∙ p6 .if4 .left)
-    _ _ _ _ _ name t a b p (lineMeant (c .record-line .result)) (c .record-line .ensures)
+    _ _ _ _ _ name t a b p (lineModel (c .record-line .result)) (c .record-line .ensures)
 
 returns-5 : tie.Need-returns-5
 returns-5 c =

@@ -7,43 +7,48 @@ use Rattle.lines.proofs.line.record_line.Tie as tie
 
 returns : tie.Need-returns
 returns c =
-    let p7 = c .before .before .before .before .before .before .before in
-    record-no-name (p7 .args .name .now) (p7 .args .t .now) (p7 .args .a .now) (p7 .args .b .now) (p7 .args .p .now) (c .before .kind-of .result) (c .before .kind-of .ensures) (c .if1 .taken)
+    let a = c .before .before .before .before .before .before .before .before .args in
+    let r = c .before .before .kind-of in
+    record-no-name (a .name .now) (a .t .now) (a .a .now) (a .b .now) (a .p .now) (r .result .good) (r .result .number) (r .ensures) (c .if1 .taken)
 
 returns-2 : tie.Need-returns-2
 returns-2 c =
-    let p9 = c .before .before .before .before .before .before .before .before .before in
-    record-bad (p9 .args .name .now) (p9 .args .t .now) (p9 .args .a .now) (p9 .args .b .now) (p9 .args .p .now) 0 (c .before .number .result) (omega arith) (c .before .number .ensures) (c .if2 .taken)
+    let a = c .before .before .before .before .before .before .before .before .before .before .before .args in
+    let r = c .before .before .number in
+    record-bad (a .name .now) (a .t .now) (a .a .now) (a .b .now) (a .p .now) 0 (omega arith) (r .result .good) (r .result .number) (r .ensures) (c .if2 .taken)
 
 returns-3 : tie.Need-returns-3
 returns-3 c =
-    let p11 = c .before .before .before .before .before .before .before .before .before .before .before in
-    record-bad (p11 .args .name .now) (p11 .args .t .now) (p11 .args .a .now) (p11 .args .b .now) (p11 .args .p .now) 1 (c .before .number2 .result) (omega arith) (c .before .number2 .ensures) (c .if3 .taken)
+    let a = c .before .before .before .before .before .before .before .before .before .before .before .before .before .before .args in
+    let r = c .before .before .number2 in
+    record-bad (a .name .now) (a .t .now) (a .a .now) (a .b .now) (a .p .now) 1 (omega arith) (r .result .good) (r .result .number) (r .ensures) (c .if3 .taken)
 
 returns-4 : tie.Need-returns-4
 returns-4 c =
-    let p13 = c .before .before .before .before .before .before .before .before .before .before .before .before .before in
-    record-bad (p13 .args .name .now) (p13 .args .t .now) (p13 .args .a .now) (p13 .args .b .now) (p13 .args .p .now) 2 (c .before .number3 .result) (omega arith) (c .before .number3 .ensures) (c .if4 .taken)
+    let a = c .before .before .before .before .before .before .before .before .before .before .before .before .before .before .before .before .before .args in
+    let r = c .before .before .number3 in
+    record-bad (a .name .now) (a .t .now) (a .a .now) (a .b .now) (a .p .now) 2 (omega arith) (r .result .good) (r .result .number) (r .ensures) (c .if4 .taken)
 
 returns-5 : tie.Need-returns-5
 returns-5 c =
-    let p15 = c .before .before .before .before .before .before .before .before .before .before .before .before .before .before .before in
-    record-bad (p15 .args .name .now) (p15 .args .t .now) (p15 .args .a .now) (p15 .args .b .now) (p15 .args .p .now) 3 (c .before .number4 .result) (omega arith) (c .before .number4 .ensures) (c .if5 .taken)
+    let a = c .before .before .before .before .before .before .before .before .before .before .before .before .before .before .before .before .before .before .before .before .args in
+    let r = c .before .before .number4 in
+    record-bad (a .name .now) (a .t .now) (a .a .now) (a .b .now) (a .p .now) 3 (omega arith) (r .result .good) (r .result .number) (r .ensures) (c .if5 .taken)
 
 returns-6 : tie.Need-returns-6
 returns-6 c =
-    let p2 = c .before .before in
-    let p3 = p2 .before in
-    let p4 = p3 .before in
-    let p5 = p4 .before in
-    let p6 = p5 .before in
-    let p7 = p6 .before in
-    let p8 = p7 .before in
-    let p9 = p8 .before in
-    let p15 = p9 .before .before .before .before .before .before in
-    record-good (p15 .args .name .now) (p15 .args .t .now) (p15 .args .a .now) (p15 .args .b .now) (p15 .args .p .now) (p9 .kind-of .result) (p7 .number .result) (p5 .number2 .result) (p3 .number3 .result) (c .before .number4 .result)
-    (p9 .kind-of .ensures) (p8 .if1 .left) (p7 .number .ensures) (p6 .if2 .left) (p5 .number2 .ensures) (p4 .if3 .left)
-    (p3 .number3 .ensures) (p2 .if4 .left) (c .before .number4 .ensures) (c .if5 .left)
+    let a = c .before .before .before .before .before .before .before .before .before .before .before .before .before .before .before .before .before .before .before .before .args in
+    let r1 = c .before .before .before .before .before .before .before .before .before .before .before .before .before .before .kind-of in
+    let r2 = c .before .before .before .before .before .before .before .before .before .before .before .number in
+    let r3 = c .before .before .before .before .before .before .before .before .number2 in
+    let r4 = c .before .before .before .before .before .number3 in
+    let r5 = c .before .before .number4 in
+    record-good (a .name .now) (a .t .now) (a .a .now) (a .b .now) (a .p .now)
+    (r1 .result .good) (r1 .result .number) (r1 .ensures) (c .before .before .before .before .before .before .before .before .before .before .before .before .if1 .left)
+    (r2 .result .good) (r2 .result .number) (r2 .ensures) (c .before .before .before .before .before .before .before .before .before .if2 .left)
+    (r3 .result .good) (r3 .result .number) (r3 .ensures) (c .before .before .before .before .before .before .if3 .left)
+    (r4 .result .good) (r4 .result .number) (r4 .ensures) (c .before .before .before .if4 .left)
+    (r5 .result .good) (r5 .result .number) (r5 .ensures) (c .if5 .left)
 
 pub record-line-spec : {M : Type 1} → statement M
 record-line-spec =
@@ -59,5 +64,4 @@ record-line-spec =
     returns-4
     (λ c κs. search needs)
     returns-5
-    (λ c. search needs)
     returns-6)

@@ -4,28 +4,25 @@ use borrow.Author.Needs.{needs}
 use Rattle.lines.proofs.line.row_line.Statement.{statement}
 use Rattle.lines.proofs.line.row_line.Tie as tie
 
-lock-of-requires : tie.Need-lock-of-requires
-lock-of-requires c κs = search needs
-
 returns : tie.Need-returns
 returns c =
-    let p4 = c .before .before .before .before in
-    row-no-lock (p4 .args .lock .now) (p4 .args .letters .now) (c .before .lock-of .result) (c .before .lock-of .ensures) (c .if1 .taken)
-
-vector-requires : tie.Need-vector-requires
-vector-requires c κs = search needs
+    let a = c .before .before .before .before .before .args in
+    let l = c .before .before .lock-of in
+    row-no-lock (a .lock .now) (a .letters .now) (l .result .good) (l .result .number) (l .ensures) (c .if1 .taken)
 
 returns-2 : tie.Need-returns-2
 returns-2 c =
-    let p6 = c .before .before .before .before .before .before in
-    row-no-vector (p6 .args .lock .now) (p6 .args .letters .now) (c .before .vector .result .width) (c .before .vector .result .mask) (c .before .vector .result .value) (c .before .vector .ensures) (c .if2 .taken)
+    let a = c .before .before .before .before .before .before .before .before .args in
+    let v = c .before .before .vector in
+    row-no-vector (a .lock .now) (a .letters .now) (v .result .good) (v .result .width) (v .result .mask) (v .result .value) (v .ensures) (c .if2 .taken)
 
 returns-3 : tie.Need-returns-3
 returns-3 c =
-    let p2 = c .before .before in
-    let p3 = p2 .before in
-    let p6 = p3 .before .before .before in
-    row-good (p6 .args .lock .now) (p6 .args .letters .now) (p3 .lock-of .result) (c .before .vector .result .width) (c .before .vector .result .mask) (c .before .vector .result .value) (p3 .lock-of .ensures) (p2 .if1 .left) (c .before .vector .ensures) (c .if2 .left)
+    let a = c .before .before .before .before .before .before .before .before .args in
+    let v = c .before .before .vector in
+    let e1 = c .before .before .before in
+    let l = e1 .before .before .lock-of in
+    row-good (a .lock .now) (a .letters .now) (l .result .good) (l .result .number) (l .ensures) (e1 .if1 .left) (v .result .good) (v .result .width) (v .result .mask) (v .result .value) (v .ensures) (c .if2 .left)
 
 pub row-line-spec : {M : Type 1} → statement M
-row-line-spec = tie.close (tie.spec lock-of-requires returns vector-requires returns-2 returns-3)
+row-line-spec = tie.close (tie.spec (λ c κs. search needs) returns (λ c κs. search needs) returns-2 returns-3)

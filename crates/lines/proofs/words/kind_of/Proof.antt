@@ -1,39 +1,42 @@
--- `lines::words::kind_of`: what the kinds from k on say of the name is the answer. Assumes nothing.
-use mathlib.Core.Path.{_≡_, sym, _∙_}
-use Prim.Native.Nat.{_≤_, _-_}
+-- `lines::words::kind_of`: what the kinds from k on say of the name is what all kinds say. Assumes nothing.
+use mathlib.Core.Bool.{Bool}
+use Prim.Native.Nat.{ℕ, _≤_, _<_, _-_}
 use native.Mathlib.Omega.{arith}
+use lib.Dec.{T}
 use lib.ListN.{drop}
-use Rattle.operations.specs.Kinds.{kinds}
-use Rattle.lines.specs.Reads.{kindRead}
-use Rattle.lines.proofs.KindNames.{found, found-all, kind-here, kind-later, kind-none}
+use Rattle.operations.specs.Kinds.{kinds, kindCount, isKind}
+use Rattle.operations.proofs.Lookup.{count-is, below-kind}
+use Rattle.lines.proofs.KindNames.{found, kind-here, kind-later, kind-none}
 use Rattle.lines.proofs.words.kind_of.Statement.{statement}
 use Rattle.lines.proofs.words.kind_of.Tie as tie
 
 abbrev Inv-loop : tie.InvT-loop
-Inv-loop f k₀ k = (k ≤ 21) × (found f (drop k kinds) ≡ kindRead f)
+Inv-loop f k₀ k = (k ≤ kindCount) × ((good : Bool) (n : ℕ) → found f (drop k kinds) good n → found f kinds good n)
 
 abbrev μ-loop : tie.MeasureT-loop
-μ-loop f k₀ k = 21 - k
+μ-loop f k₀ k = kindCount - k
 
 loop-holds : tie.Need-loop-holds Inv-loop μ-loop
-loop-holds c = (omega arith, found-all (c .before .args .f .now))
+loop-holds c = (omega arith, λ good n t. t)
+
+is-name-requires : tie.Need-is-name-requires Inv-loop μ-loop
+is-name-requires c κs = below-kind _ (omega (arith, count-is))
 
 returns : tie.Need-returns Inv-loop μ-loop
 returns c =
-    let p3 = c .before .before .before in
-    let s = p3 .before .before in
-    let i = p3 in
-    sym (kind-here (s .args .f .now) (i .loop .k) (omega arith) (c .before .is-name .result) (c .before .is-name .ensures) (c .if1 .taken)) ∙ i .loop .inv .1
+    let i = c .before .before .before in
+    i .loop .inv .1 _ _
+    (kind-here (i .before .before .args .f .now) (i .loop .k) (below-kind (i .loop .k) (omega (arith, count-is))) (c .before .is-name .result) (c .before .is-name .ensures) (c .if1 .taken))
 
 loop-again : tie.Need-loop-again Inv-loop μ-loop
 loop-again c =
-    let p3 = c .before .before .before in
-    let s = p3 .before .before in
-    let i = p3 in
-    (omega arith, sym (kind-later (s .args .f .now) (i .loop .k) (omega arith) (c .before .is-name .result) (c .before .is-name .ensures) (c .if1 .left)) ∙ i .loop .inv .1)
+    let i = c .before .before .before in (
+      omega (arith, count-is),
+      λ good n t. i .loop .inv .1 good n (kind-later (i .before .before .args .f .now) (i .loop .k) (below-kind (i .loop .k) (omega (arith, count-is))) (c .before .is-name .result) (c .before .is-name .ensures) (c .if1 .left) good n t),
+    )
 
 returns-2 : tie.Need-returns-2 Inv-loop μ-loop
-returns-2 c = sym (kind-none (c .before .before .before .args .f .now) (c .before .loop .k) (omega arith) (omega arith)) ∙ c .before .loop .inv .1
+returns-2 c = c .before .loop .inv .1 _ _ (kind-none (c .before .before .before .args .f .now) (c .before .loop .k) (omega (arith, count-is)))
 
 pub kind-of-spec : {M : Type 1} → statement M
 kind-of-spec =
@@ -42,9 +45,10 @@ kind-of-spec =
     Inv-loop
     μ-loop
     loop-holds
-    (λ c κs. omega arith)
+    (λ c. omega (arith, count-is))
+    is-name-requires
     returns
-    (λ c. omega arith)
-    (λ c. omega arith)
+    (λ c. omega (arith, count-is))
+    (λ c. omega (arith, count-is))
     loop-again
     returns-2)

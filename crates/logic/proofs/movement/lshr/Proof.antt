@@ -17,7 +17,7 @@ unfolding opLshr
 shr-t6 c = parameter-below refl (c .pre .1)
 
 returns : tie.Need-returns
-unfolding kinds opLshr
+unfolding kinds
 returns c = moving-result 6 refl (c .pre .1) (lshr-moved (c .args .w) (c .args .p)) refl refl
 
 pub lshr-spec : {M : Type 1} → statement M

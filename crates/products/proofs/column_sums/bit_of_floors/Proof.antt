@@ -5,7 +5,7 @@ use mir.Val.{ofZ}
 use mir.Syntax.{w64}
 use borrow.Author.Tests.{eq-eqb, ne-eqb}
 use Rattle.vectors.specs.declared.OutputBit.the-variants.{Zero, One}
-use Rattle.products.specs.Column.{modTwo}
+use Rattle.products.specs.ColumnSum.{modTwo}
 use Rattle.products.proofs.Floors.{same-floors, other-floors}
 use Rattle.products.proofs.Held.{same-bits, lowest-bit}
 use Rattle.products.proofs.column_sums.bit_of_floors.Statement.{statement}

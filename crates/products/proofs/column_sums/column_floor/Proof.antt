@@ -8,7 +8,7 @@ use mir.ValLaws.{sfits-le}
 use mir.Facts.{toZ-ofZ}
 use mir.Syntax.{w64}
 use borrow.Author.Needs.{needs}
-use Rattle.products.specs.Column.{columnFloor}
+use Rattle.products.specs.ColumnSum.{columnFloor}
 use Rattle.products.proofs.column_sums.column_floor.Statement.{statement}
 use Rattle.products.proofs.column_sums.column_floor.Tie as tie
 

@@ -3,7 +3,7 @@ use mathlib.Core.Path.{ap₂, _∙_}
 use mir.Facts.{toZ-ofZ}
 use mir.Syntax.{w64}
 use borrow.Author.Needs.{needs}
-use Rattle.products.specs.Column.{bitOfFloors}
+use Rattle.products.specs.ColumnSum.{bitOfFloors}
 use Rattle.products.specs.Factors.{settledBit}
 use Rattle.products.proofs.factors.settle.Statement.{statement}
 use Rattle.products.proofs.factors.settle.Tie as tie

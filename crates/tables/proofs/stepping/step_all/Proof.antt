@@ -5,10 +5,10 @@ use mathlib.Core.Path.{_≡_, refl, sym, ap, _∙_}
 use mathlib.Core.List.{[]}
 use Prim.Native.Nat.{ℕ, _+_, _-_, _/_, _≤_}
 use lib.ListN.{length}
-use Rattle.checks.specs.Meant.{lent}
+use Rattle.checks.specs.Model.{lent}
 use Rattle.tables.specs.Step.{after}
 use Rattle.tables.specs.Run.{programOf}
-use Rattle.tables.specs.Meant.{held}
+use Rattle.tables.specs.Model.{held}
 use Rattle.tables.proofs.StretchLaws.{at-fits, turn-ready, turn-next}
 use Rattle.tables.proofs.stepping.step_all.Statement.{statement}
 use Rattle.tables.proofs.stepping.step_all.Tie as tie

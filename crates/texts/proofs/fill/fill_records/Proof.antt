@@ -4,7 +4,7 @@ use Prim.Native.Nat.{_+_, _-_, _≤_}
 use native.Mathlib.Omega.{arith}
 use borrow.Author.Needs.{needs}
 use lib.ListN.{length, length-set}
-use Rattle.lines.specs.Meant.{lineMeant}
+use Rattle.lines.specs.Model.{lineModel}
 use Rattle.texts.proofs.FillRecords.{Filling, begin, same-length as kept, ends-in, no-row, no-outside, more, done, room}
 use Rattle.texts.proofs.fill.fill_records.Statement.{statement}
 use Rattle.texts.proofs.fill.fill_records.Tie as tie
@@ -33,7 +33,7 @@ returns c =
     let p4 = p2 .before .before in
     let p5 = p4 .before in
     let p6 = p5 .before in
-    absurd (no-row (p6 .loop .inv) (p4 .end-of .result) (p4 .end-of .ensures .0) (p5 .loop-test .taken) (lineMeant (p2 .line .result)) (p2 .line .ensures) _ (ap lineMeant (c .enum-told .given .1)))
+    absurd (no-row (p6 .loop .inv) (p4 .end-of .result) (p4 .end-of .ensures .0) (p5 .loop-test .taken) (lineModel (p2 .line .result)) (p2 .line .ensures) _ (ap lineModel (c .enum-told .given .1)))
 
 -- the record's five words are in the slice
 space : (c : tie.After-known-told Inv-loop μ-loop) → let l = c .before .before .before .before .before .before .before .loop in l .i + 5 ≤ length (l .words)
@@ -79,7 +79,7 @@ returns-2 c =
     let p4 = p2 .before .before in
     let p5 = p4 .before in
     let p6 = p5 .before in
-    absurd (no-outside (p6 .loop .inv) (p4 .end-of .result) (p4 .end-of .ensures .0) (p5 .loop-test .taken) (lineMeant (p2 .line .result)) (p2 .line .ensures) (ap lineMeant (c .enum-told2 .given .1)))
+    absurd (no-outside (p6 .loop .inv) (p4 .end-of .result) (p4 .end-of .ensures .0) (p5 .loop-test .taken) (lineModel (p2 .line .result)) (p2 .line .ensures) (ap lineModel (c .enum-told2 .given .1)))
 
 add-at : tie.Need-add-at Inv-loop μ-loop
 add-at c =
@@ -97,7 +97,7 @@ loop-again c =
     let p5 = p3 .before .before in
     let p6 = p5 .before in
     let p7 = p6 .before in
-    more (p7 .loop .inv) (p5 .end-of .result) (p5 .end-of .ensures .0) (p6 .loop-test .taken) (lineMeant (p3 .line .result)) (p3 .line .ensures) _ _ _ _ _ (ap lineMeant (c .before .f .given .1))
+    more (p7 .loop .inv) (p5 .end-of .result) (p5 .end-of .ensures .0) (p6 .loop-test .taken) (lineModel (p3 .line .result)) (p3 .line .ensures) _ _ _ _ _ (ap lineModel (c .before .f .given .1))
 
 same-length-3 : tie.Need-same-length-3 Inv-loop μ-loop
 same-length-3 c = kept (c .before .loop .inv)

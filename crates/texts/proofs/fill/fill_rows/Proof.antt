@@ -3,7 +3,7 @@ use mathlib.Core.Path.{ap}
 use Prim.Native.Nat.{_≤_, _-_}
 use native.Mathlib.Omega.{arith}
 use borrow.Author.Needs.{needs}
-use Rattle.lines.specs.Meant.{lineMeant}
+use Rattle.lines.specs.Model.{lineModel}
 use Rattle.texts.proofs.FillRows.{Filling, begin, lengths, ends-in, no-record, no-outside, more, done}
 use Rattle.texts.proofs.RowBytes.{bytes-fit}
 use Rattle.texts.proofs.fill.fill_rows.Statement.{statement}
@@ -28,7 +28,7 @@ part-line-end c = omega (arith, c .end-of .ensures .1)
 cast-width : tie.Need-cast-width Inv-loop μ-loop
 cast-width c =
     let p3 = c .before .before .before in
-    omega (arith, bytes-fit _ (lineMeant (p3 .line .result)) (p3 .line .ensures) _ (ap lineMeant (c .before .f .given .1)))
+    omega (arith, bytes-fit _ (lineModel (p3 .line .result)) (p3 .line .ensures) _ (ap lineModel (c .before .f .given .1)))
 
 slice-write-width : tie.Need-slice-write-width Inv-loop μ-loop
 slice-write-width c =
@@ -40,7 +40,7 @@ slice-write-width c =
 cast-lock : tie.Need-cast-lock Inv-loop μ-loop
 cast-lock c =
     let p3 = c .before .before .before in
-    omega (arith, bytes-fit _ (lineMeant (p3 .line .result)) (p3 .line .ensures) _ (ap lineMeant (c .before .f .given .1)))
+    omega (arith, bytes-fit _ (lineModel (p3 .line .result)) (p3 .line .ensures) _ (ap lineModel (c .before .f .given .1)))
 
 slice-write-lock : tie.Need-slice-write-lock Inv-loop μ-loop
 slice-write-lock c =
@@ -82,7 +82,7 @@ returns c =
     let p5 = p4 .before in
     let p6 = p5 .before in
     let p12 = p6 .before .before .before .before .before .before in
-    absurd (no-record (p6 .loop .inv .0) (p4 .end-of .result) (p4 .end-of .ensures .0) (omega (arith, p5 .loop-test .taken, p12 .pre .count)) (lineMeant (p2 .line .result)) (p2 .line .ensures) _ (ap lineMeant (c .enum-told .given .1)))
+    absurd (no-record (p6 .loop .inv .0) (p4 .end-of .result) (p4 .end-of .ensures .0) (omega (arith, p5 .loop-test .taken, p12 .pre .count)) (lineModel (p2 .line .result)) (p2 .line .ensures) _ (ap lineModel (c .enum-told .given .1)))
 
 same-length-5 : tie.Need-same-length-5 Inv-loop μ-loop
 same-length-5 c = lengths (c .before .before .before .before .before .before .loop .inv .0) .0
@@ -103,7 +103,7 @@ returns-2 c =
     let p5 = p4 .before in
     let p6 = p5 .before in
     let p12 = p6 .before .before .before .before .before .before in
-    absurd (no-outside (p6 .loop .inv .0) (p4 .end-of .result) (p4 .end-of .ensures .0) (omega (arith, p5 .loop-test .taken, p12 .pre .count)) (lineMeant (p2 .line .result)) (p2 .line .ensures) (ap lineMeant (c .enum-told2 .given .1)))
+    absurd (no-outside (p6 .loop .inv .0) (p4 .end-of .result) (p4 .end-of .ensures .0) (omega (arith, p5 .loop-test .taken, p12 .pre .count)) (lineModel (p2 .line .result)) (p2 .line .ensures) (ap lineModel (c .enum-told2 .given .1)))
 
 add-at : tie.Need-add-at Inv-loop μ-loop
 add-at c =
@@ -120,7 +120,7 @@ loop-again c =
     let p6 = p5 .before in
     let p7 = p6 .before in
     let p13 = p7 .before .before .before .before .before .before in
-    (more (p7 .loop .inv .0) (p5 .end-of .result) (p5 .end-of .ensures .0) (omega (arith, p6 .loop-test .taken, p13 .pre .count)) (lineMeant (p3 .line .result)) (p3 .line .ensures) _ (ap lineMeant (c .before .f .given .1)), omega arith)
+    (more (p7 .loop .inv .0) (p5 .end-of .result) (p5 .end-of .ensures .0) (omega (arith, p6 .loop-test .taken, p13 .pre .count)) (lineModel (p3 .line .result)) (p3 .line .ensures) _ (ap lineModel (c .before .f .given .1)), omega arith)
 
 same-length-9 : tie.Need-same-length-9 Inv-loop μ-loop
 same-length-9 c = lengths (c .before .loop .inv .0) .0

@@ -5,7 +5,7 @@ use Prim.Native.Nat.{_-_}
 use native.Mathlib.Omega.{arith}
 use borrow.Author.Needs.{needs}
 use lib.ListN.{length}
-use Rattle.lines.specs.Meant.{lineMeant}
+use Rattle.lines.specs.Model.{lineModel}
 use Rattle.texts.proofs.Surveys.{Surveying, begin, no-end, outside-line, late-row, more-row, more-record, ended, with-counts}
 use Rattle.texts.proofs.fill.survey.Statement.{statement}
 use Rattle.texts.proofs.fill.survey.Tie as tie
@@ -34,7 +34,7 @@ returns-2 c =
     let p5 = p3 .before .before in
     let p6 = p5 .before in
     let p8 = p6 .before .before in
-    late-row (p8 .loop .inv .1) (p6 .end-of .result) (p6 .end-of .ensures .0) (omega (arith, p6 .end-of .ensures .1, p5 .if1 .left)) (lineMeant (p3 .line .result)) (p3 .line .ensures) _ (ap lineMeant (c .before .enum-told .given .1)) (c .if2 .taken)
+    late-row (p8 .loop .inv .1) (p6 .end-of .result) (p6 .end-of .ensures .0) (omega (arith, p6 .end-of .ensures .1, p5 .if1 .left)) (lineModel (p3 .line .result)) (p3 .line .ensures) _ (ap lineModel (c .before .enum-told .given .1)) (c .if2 .taken)
 
 returns-3 : tie.Need-returns-3 Inv-loop μ-loop
 returns-3 c =
@@ -42,7 +42,7 @@ returns-3 c =
     let p4 = p2 .before .before in
     let p5 = p4 .before in
     let p7 = p5 .before .before in
-    outside-line (p7 .loop .inv .1) (p5 .end-of .result) (p5 .end-of .ensures .0) (omega (arith, p5 .end-of .ensures .1, p4 .if1 .left)) (lineMeant (p2 .line .result)) (p2 .line .ensures) (ap lineMeant (c .enum-told3 .given .1))
+    outside-line (p7 .loop .inv .1) (p5 .end-of .result) (p5 .end-of .ensures .0) (omega (arith, p5 .end-of .ensures .1, p4 .if1 .left)) (lineModel (p2 .line .result)) (p2 .line .ensures) (ap lineModel (c .enum-told3 .given .1))
 
 loop-again : tie.Need-loop-again Inv-loop μ-loop
 loop-again c =
@@ -50,8 +50,8 @@ loop-again c =
     let p4 = p3 .before in
     let p6 = p4 .before .before in
     ⊎-elim
-    (λ w. (refl, with-counts (c .match .rows) (c .match .records) (w .3) (w .4) (more-row (p6 .loop .inv .1) (p4 .end-of .result) (p4 .end-of .ensures .0) (omega (arith, p4 .end-of .ensures .1, p3 .if1 .left)) (lineMeant (c .before .line .result)) (c .before .line .ensures) _ (ap lineMeant (w .1 .given .1)) (omega (arith, w .2 .left)))))
-    (λ w. (refl, with-counts (c .match .rows) (c .match .records) (w .2) (w .3) (more-record (p6 .loop .inv .1) (p4 .end-of .result) (p4 .end-of .ensures .0) (omega (arith, p4 .end-of .ensures .1, p3 .if1 .left)) (lineMeant (c .before .line .result)) (c .before .line .ensures) _ (ap lineMeant (w .1 .given .1)) refl)))
+    (λ w. (refl, with-counts (c .match .rows) (c .match .records) (w .3) (w .4) (more-row (p6 .loop .inv .1) (p4 .end-of .result) (p4 .end-of .ensures .0) (omega (arith, p4 .end-of .ensures .1, p3 .if1 .left)) (lineModel (c .before .line .result)) (c .before .line .ensures) _ (ap lineModel (w .1 .given .1)) (omega (arith, w .2 .left)))))
+    (λ w. (refl, with-counts (c .match .rows) (c .match .records) (w .2) (w .3) (more-record (p6 .loop .inv .1) (p4 .end-of .result) (p4 .end-of .ensures .0) (omega (arith, p4 .end-of .ensures .1, p3 .if1 .left)) (lineModel (c .before .line .result)) (c .before .line .ensures) _ (ap lineModel (w .1 .given .1)) refl)))
     (c .match .came)
 
 returns-4 : tie.Need-returns-4 Inv-loop μ-loop

@@ -4,7 +4,7 @@ use mathlib.Core.List.{[]}
 use Prim.Native.Nat.{_≤_, _+_, _-_, _*_, _/_}
 use native.Mathlib.Omega.{arith}
 use lib.ListN.{length}
-use Rattle.checks.specs.Meant.{lent}
+use Rattle.checks.specs.Model.{lent}
 use Rattle.grammar.specs.Print.{linesText, recordLines}
 use Rattle.lines.proofs.PutLines.{recordText}
 use Rattle.lines.proofs.Puts.{Writing, begin, step-on, room-on, done-on}

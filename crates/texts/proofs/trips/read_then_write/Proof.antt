@@ -2,7 +2,7 @@
 use mathlib.Core.Path.{sym}
 use native.Mathlib.Omega.{arith}
 use lib.Seq.{length-take-le}
-use Rattle.checks.specs.Meant.{lent}
+use Rattle.checks.specs.Model.{lent}
 use Rattle.texts.proofs.TripCalls.{read-room, not-read, bytes-trip}
 use borrow.Author.Needs.{needs}
 use Rattle.texts.proofs.trips.read_then_write.Statement.{statement}
