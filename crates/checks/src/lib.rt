@@ -7,8 +7,8 @@ ghost use Rattle.checks.specs.Checks.{rowShapeFaults, wordFaults, stretc
 ghost use Rattle.checks.specs.Encoding.{RowSlices, headChecks, bodyChecks};
 ghost use Prim.Native.Nat.{_≤_};
 use limits::RECORD_LIMIT;
-use limits::RECORD_WORDS;
 use limits::ROW_LIMIT;
+use operations::RECORD_WORDS;
 use records::check_records;
 use rows::check_rows;
 ghost use Rattle.checks.specs.Model.{lent, verdictModel, judged};
@@ -16,6 +16,7 @@ ghost use Rattle.checks.specs.Model.{lent, verdictModel, judged};
 pub mod described; // described.rt: what each kind uses and asks of the widths
 pub mod limits; // limits.rt: numbers that 01 sets
 pub mod records; // records.rt: checks 6 to 10
+pub mod refusals; // refusals.rt: the numbers of the refusals
 pub mod rows; // rows.rt: checks 4 and 5
 
 // A refusal holds its number and its place.
@@ -42,14 +43,16 @@ pub fn refuse(number: u32, place: usize) -> Verdict
 
 // Checks 1 and 2.
 pub fn check_shape(width: &[u8], lock: &[u8], mask: &[u32], value: &[u32]) -> Verdict
-    ensures { λ r. ⌜ verdictModel r ≡ judged (placed 0 (rowShapeFaults (lent (now (width .entry)) (now (lock .entry)) (now (mask .entry)) (now (value .entry)) []))) ⌝ }
+    ensures { λ r.
+        let table = lent (now (width .entry)) (now (lock .entry)) (now (mask .entry)) (now (value .entry)) [] in
+        ⌜ verdictModel r ≡ judged (placed 0 (rowShapeFaults table)) ⌝ }
 {
     let n = width.len();
     if n == 0 {
-        return refuse(1, 0);
+        return refuse(refusals::ROWS, 0);
     }
     if ROW_LIMIT < n {
-        return refuse(1, 0);
+        return refuse(refusals::ROWS, 0);
     }
     if lock.len() != n {
         return refuse(2, 0);

@@ -1,8 +1,5 @@
 // Numbers that 01, "Vectors and rows" and "Records" set.
 
-// Words in a record.
-pub const RECORD_WORDS: usize = 5;
-
 // The most rows of a table, and the most records.
 pub const ROW_LIMIT: usize = 256;
 

@@ -1,5 +1,6 @@
 -- A record's words, its checks 6 to 10 and its effect, all from the kind's description (01, "Records" and "Who can cause a refusal").
 --   kindWord, targetWord, firstWord, secondWord, parameterWord   the five words of a record: kind, target row t, operand rows a and b, parameter p
+--   wordsOf r        the words of a record that the code holds as one value
 --   kindIn words     the record's kind
 --   used u a l, operands k a b p   of what stands for the words a, b and p that whose word the kind uses as a row, one by one
 --   rowsNamed words  the operand rows that the words a, b and p name, in that order
@@ -14,6 +15,7 @@ use mathlib.Core.List.{List, [], _∷_, _++_, map}
 use Prim.Native.Nat.{ℕ}
 use lib.Dec.{leb, ltb, eqb}
 use lib.ListN.{length, getD}
+use Rattle.operations.specs.declared.Record.{Record}
 use Rattle.operations.specs.Limits.{parameterLimit}
 use Rattle.operations.specs.Kind.{asks, Use, asRow, asNumber, unused, Kind}
 use Rattle.operations.specs.Kinds.{isKind, kindOf}
@@ -32,6 +34,9 @@ secondWord words = getD words 3 0
 
 abbrev pub parameterWord : List ℕ → ℕ
 parameterWord words = getD words 4 0
+
+abbrev pub wordsOf : Record → List ℕ
+wordsOf r = r .kind ∷ r .t ∷ r .a ∷ r .b ∷ r .p ∷ []
 
 abbrev pub kindIn : List ℕ → Kind
 kindIn words = kindOf (kindWord words)

@@ -7,6 +7,18 @@ ghost use lib.ListN.{length, getD};
 ghost use Rattle.operations.specs.Kinds.{isKind, kindOf};
 ghost use Rattle.operations.specs.Encoding.{digitOf, useCode, ruleCode};
 
+// A record by its words: kind, target row t, operand rows a and b, parameter p.
+pub struct Record {
+    pub kind: u32,
+    pub t: u32,
+    pub a: u32,
+    pub b: u32,
+    pub p: u32,
+}
+
+// Words in a record.
+pub const RECORD_WORDS: usize = 5;
+
 // How many kinds there are.
 pub const KINDS: u32 = 21;
 

@@ -9,7 +9,7 @@ use checks::Refusal;
 use checks::Verdict;
 use checks::check_count;
 use checks::check_run;
-use checks::limits::RECORD_WORDS;
+use operations::RECORD_WORDS;
 use stepping::step_all;
 ghost use Rattle.tables.specs.Model.{held, runModel, ran, countModel};
 

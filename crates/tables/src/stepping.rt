@@ -14,9 +14,9 @@ ghost use Rattle.tables.specs.Step as Step;
 ghost use Rattle.tables.specs.Run.{programOf};
 ghost use Rattle.tables.specs.Model.{held};
 ghost use Rattle.tables.specs.Encoding.{usedRow, StepReady, StretchReady};
-use checks::limits::RECORD_WORDS;
 use checks::records::index;
 use checks::rows::wide;
+use operations::RECORD_WORDS;
 use operations::parameter_use;
 use operations::second_use;
 

@@ -1,10 +1,10 @@
 // Reading a text in two passes: the first judges it whole, the second fills the lent slices (01, "Calls": read).
 ghost use Rattle.texts.specs.Fill.{Surveyed, RowsWait, RowsRead, RecordsWait, RecordsRead};
-use checks::limits::RECORD_WORDS;
 use lines::cut::LF;
 use lines::cut::end_of;
 use lines::line::Found;
 use lines::line::line;
+use operations::RECORD_WORDS;
 
 // The first bad line, from 1, or 0 and the counts of row lines and record lines.
 pub struct Tally {

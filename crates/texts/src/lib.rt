@@ -9,7 +9,6 @@ ghost use Rattle.texts.specs.Model.{bytesModel, writeLeft, readLeft};
 use checks::Refusal;
 use checks::Verdict;
 use checks::check_table;
-use checks::limits::RECORD_WORDS;
 use fill::fill_records;
 use fill::fill_rows;
 use fill::survey;
@@ -19,6 +18,7 @@ use limits::TEXT_LIMIT;
 use lines::cut::LF;
 use lines::cut::TAB;
 use lines::cut::part;
+use operations::RECORD_WORDS;
 use print::put_records;
 use print::put_rows;
 

@@ -5,9 +5,9 @@ ghost use Rattle.checks.specs.Model.{lent};
 ghost use Rattle.grammar.specs.Print.{linesText, rowLines, recordLines};
 ghost use Rattle.lines.specs.Put.{Holds, Put};
 ghost use Rattle.texts.specs.Print.{RowsFit, RecordsFit};
-use checks::limits::RECORD_WORDS;
 use lines::put::put_record;
 use lines::put::put_row;
+use operations::RECORD_WORDS;
 
 fn wide(b: u8) -> u32
     ensures { λ r. ⌜ r ≡ b ⌝ }

@@ -6,7 +6,7 @@ use crate::BytesAnswer;
 use crate::ReadAnswer;
 use crate::read;
 use crate::write;
-use checks::limits::RECORD_WORDS;
+use operations::RECORD_WORDS;
 
 // A table that is written into `out` is read back from there into other slices.
 fn write_then_read(
