@@ -2,7 +2,11 @@
 use mathlib.Core.Path.{_≡_, refl, sym, ap, subst, subst₂, _∙_}
 use mathlib.Core.Bool.{Bool, not, _&&_}
 use mathlib.Core.List.{List, [], _∷_}
-use Prim.Native.Nat.{ℕ}
+use Prim.Native.Nat.{ℕ, zero, suc, _<_}
+use native.Mathlib.Nat.{le-of-suc-le-suc}
+use native.Mathlib.Decide.{ℕ-discrete}
+use native.Mathlib.Omega.{arith}
+use lib.Arith.{lt-of-le-ne}
 use lib.Dec.{T, eqb, eqb→eq}
 use Rattle.bits.proofs.Bools.{T-left, T-right, T-not-not}
 use Rattle.vectors.specs.Row.{Row, row}
@@ -10,6 +14,29 @@ use Rattle.operations.specs.Kind.{Use, unused, asks, Rule, Kind, sameWidth, sam
 use Rattle.operations.specs.Record.{misused, operands}
 use Rattle.operations.specs.Kinds.{kindOf}
 use Rattle.operations.specs.Result.{widthsOf, resultOf, Ready}
+
+-- ---- the last arm of a match
+
+-- n is none of the numbers below m
+abbrev pub Excluded : ℕ → ℕ → Type 0
+Excluded zero n = Unit {0}
+Excluded (suc m) n = Excluded m n × (n ≡ m → ⊥)
+
+none-below : (n m : ℕ) → n < m → Excluded m n → ⊥
+none-below n zero h r = omega arith
+none-below n (suc m) h r =
+    elim (ℕ-discrete n m) [
+      | yes e ↦ r .1 e
+      | no d ↦ none-below n m (lt-of-le-ne (le-of-suc-le-suc h) d) (r .0)
+    ]
+
+-- the number that is left
+pub only-left : (n m : ℕ) → n < suc m → Excluded m n → n ≡ m
+only-left n m h r =
+    elim (ℕ-discrete n m) [
+      | yes e ↦ e
+      | no d ↦ absurd (none-below n m (lt-of-le-ne (le-of-suc-le-suc h) d) r)
+    ]
 
 -- ---- an arm: a kind's operands as its kernel names them
 
@@ -27,6 +54,16 @@ pub record Given : Type 0 where
 pub record Arm (g : Given) (k : Kind) (w q : ℕ) (rows : List Row) : Type 0 where
   pub asks : Ready k w q rows
   pub gives : resultOf k w q rows ≡ resultOf (kindOf (g .kind)) (g .wt) (g .p) (operands (kindOf (g .kind)) (g .ra) (g .rb) (g .rc))
+
+-- the shapes that several kinds have: one operand of the target's width, two of them, and two of one width with a target of width 1
+abbrev pub SameRow : Given → Kind → ℕ → Type 0
+SameRow g k q = Arm g k (g .wt) q (row (g .wt) (g .ra .mask) (g .ra .value) ∷ [])
+
+abbrev pub SameRows : Given → Kind → Type 0
+SameRows g k = Arm g k (g .wt) 0 (row (g .wt) (g .ra .mask) (g .ra .value) ∷ row (g .wt) (g .rb .mask) (g .rb .value) ∷ [])
+
+abbrev pub ComparedRows : Given → Kind → Type 0
+ComparedRows g k = (g .wt ≡ 1) × Arm g k 1 0 (g .ra ∷ row (g .ra .width) (g .rb .mask) (g .rb .value) ∷ [])
 
 module _ (k : Kind) (n : ℕ) (own : kindOf n ≡ k) (g : Given) (e : g .kind ≡ n) where
   is-kind : kindOf (g .kind) ≡ k
@@ -70,15 +107,13 @@ module _ (k : Kind) (n : ℕ) (own : kindOf n ≡ k) (g : Given) (e : g .kind �
   one-row f o = o ∙ (λ ι. row (same (g .wt) (g .ra .width) (rule sameWidth (g .ra ∷ []) f o) ι) (g .ra .mask) (g .ra .value) ∷ [])
 
   -- two of them
-  pub two-rows : k .rule ≡ sameWidths → k .use-p ≡ unused → operands k (g .ra) (g .rb) (g .rc) ≡ g .ra ∷ g .rb ∷ []
-      → Arm g k (g .wt) 0 (row (g .wt) (g .ra .mask) (g .ra .value) ∷ row (g .wt) (g .rb .mask) (g .rb .value) ∷ [])
+  pub two-rows : k .rule ≡ sameWidths → k .use-p ≡ unused → operands k (g .ra) (g .rb) (g .rc) ≡ g .ra ∷ g .rb ∷ [] → SameRows g k
   two-rows f u o =
       let (a, b) = both-same (rule sameWidths (g .ra ∷ g .rb ∷ []) f o) in
       arm refl (none u) (o ∙ (λ ι. row (a ι) (g .ra .mask) (g .ra .value) ∷ row (b ι) (g .rb .mask) (g .rb .value) ∷ []))
 
   -- two of one width, and a target of width 1
-  pub compared-rows : k .rule ≡ comparedWidths → k .use-p ≡ unused → operands k (g .ra) (g .rb) (g .rc) ≡ g .ra ∷ g .rb ∷ []
-      → (g .wt ≡ 1) × Arm g k 1 0 (g .ra ∷ row (g .ra .width) (g .rb .mask) (g .rb .value) ∷ [])
+  pub compared-rows : k .rule ≡ comparedWidths → k .use-p ≡ unused → operands k (g .ra) (g .rb) (g .rc) ≡ g .ra ∷ g .rb ∷ [] → ComparedRows g k
   compared-rows f u o =
       let t = rule comparedWidths (g .ra ∷ g .rb ∷ []) f o in
       let w = eqb→eq (g .wt) 1 (T-right (eqb (g .ra .width) (g .rb .width)) (eqb (g .wt) 1) t) in

@@ -73,13 +73,13 @@ pub kind-test : (p : ℕ → Bool) → T (allBelow kindCount p) → (n : ℕ) �
 kind-test p t n h = allBelow-elim kindCount p t n (kind-below n h)
 
 -- the code's test
-known : (n : ℕ) (b : Bool) → (T b → n < kindCount) → (n < kindCount → T b) → ltb n 21 ≡ b
-known n true f g = le-leb (suc n) 21 (omega (arith, count-is, f tt))
+known : (n : ℕ) (b : Bool) → (T b → n < kindCount) → (n < kindCount → T b) → ltb n kindCount ≡ b
+known n true f g = le-leb (suc n) kindCount (f tt)
 known n false f g =
-    elim (decLt n 21) [
-      | yes y ↦ absurd (g (omega (arith, count-is)))
-      | no z ↦ lt-leb (suc n) 21 (omega arith)
+    elim (decLt n kindCount) [
+      | yes y ↦ absurd (g y)
+      | no z ↦ lt-leb (suc n) kindCount (omega arith)
     ]
 
-pub kind-known : (n : ℕ) → ltb n 21 ≡ isKind n
+pub kind-known : (n : ℕ) → ltb n kindCount ≡ isKind n
 kind-known n = known n (isKind n) (kind-below n) (below-kind n)

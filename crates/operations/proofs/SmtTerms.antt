@@ -11,9 +11,7 @@ use lib.Dec.{T, eqb, eqb→eq, nltb→le, ltb→lt, leb→le}
 use lib.ListN.{getD, drop}
 use Rattle.vectors.specs.Lists.{All}
 use Rattle.operations.specs.Kind.{Kind}
-use Rattle.operations.specs.Bitwise.{opCopy, opNot, opAnd, opOr, opXor}
-use Rattle.operations.specs.Moves.{opShl, opLshr, opAshr, opRotl, opExtract, opConcat, opZext, opSext}
-use Rattle.operations.specs.Arithmetic.{opAdd, opSub, opNeg, opMul, opEq, opUlt, opSlt, opIte}
+use Rattle.operations.specs.Moves.{opShl, opLshr, opAshr}
 use Rattle.operations.specs.Kinds.{kinds, numbered, find, isKind, kindOf}
 use Rattle.operations.specs.Limits.{parameterLimit}
 use Rattle.operations.specs.Bitvector.{bv}
@@ -51,7 +49,7 @@ unfolding terms
 terms-serve = serving terms refl
 
 pub terms-agree : All Agrees terms
-unfolding terms bv opCopy opNot opAnd opOr opXor opShl opLshr opAshr opRotl opExtract opConcat opZext opSext opAdd opSub opNeg opMul opEq opUlt opSlt opIte
+unfolding terms kinds bv
 terms-agree =
     by-same _ refl refl (λ p w a s h. h)
     ⨾ by-same _ refl refl (λ p w a s h. not-is h)

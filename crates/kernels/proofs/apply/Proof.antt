@@ -1,34 +1,18 @@
 -- `kernels::apply` meets its contract: in each arm the kernel's own contract, under the names of the dispatch. Assumes nothing.
-use mathlib.Core.Path.{_≡_, ap, subst, _∙_}
-use Prim.Native.Nat.{ℕ, suc, _<_}
-use native.Mathlib.Nat.{not-suc-le-zero, le-of-suc-le-suc}
-use native.Mathlib.Decide.{ℕ-discrete}
-use lib.Arith.{lt-of-le-ne}
+use mathlib.Core.Path.{_≡_, ap, _∙_}
+use Prim.Native.Nat.{ℕ}
 use Rattle.vectors.specs.Row.{row}
 use Rattle.vectors.specs.declared.Vector.{Vector}
-use Rattle.operations.proofs.Lookup.{count-is, kind-below}
-use Rattle.kernels.proofs.Dispatch.{Given}
+use Rattle.operations.specs.Kinds.{kindCount}
+use Rattle.operations.proofs.Lookup.{kind-below}
+use Rattle.kernels.proofs.Dispatch.{Given, Excluded, only-left}
 use Rattle.kernels.proofs.KindDispatch.{arm-copy, arm-not, arm-and, arm-or, arm-xor, arm-shl, arm-lshr, arm-ashr, arm-rotl, arm-extract, arm-concat, arm-zext, arm-sext, arm-add, arm-sub, arm-neg, arm-mul, arm-eq, arm-ult, arm-slt, arm-ite}
 use Rattle.kernels.proofs.apply.Statement.{statement}
 use Rattle.kernels.proofs.apply.Tie as tie
 
--- one number fewer below
-below : (n m : ℕ) → n < suc m → (n ≡ m → ⊥) → n < m
-below n m h d = lt-of-le-ne (le-of-suc-le-suc h) d
-
-abbrev Rest : ℕ → Type 0
-Rest n = (((((((((((((((((((Unit {0} × (n ≡ 0 → ⊥)) × (n ≡ 1 → ⊥)) × (n ≡ 2 → ⊥)) × (n ≡ 3 → ⊥)) × (n ≡ 4 → ⊥)) × (n ≡ 5 → ⊥)) × (n ≡ 6 → ⊥)) × (n ≡ 7 → ⊥)) × (n ≡ 8 → ⊥)) × (n ≡ 9 → ⊥)) × (n ≡ 10 → ⊥)) × (n ≡ 11 → ⊥)) × (n ≡ 12 → ⊥)) × (n ≡ 13 → ⊥)) × (n ≡ 14 → ⊥)) × (n ≡ 15 → ⊥)) × (n ≡ 16 → ⊥)) × (n ≡ 17 → ⊥)) × (n ≡ 18 → ⊥)) × (n ≡ 19 → ⊥)
-
--- the kind that is left
-last-kind : (n : ℕ) → n < 21 → (r : Rest n) → n ≡ 20
-last-kind n h r =
-    elim (ℕ-discrete n 20) [
-      | yes e ↦ e
-      | no d ↦ absurd (not-suc-le-zero (below n 0 (below n 1 (below n 2 (below n 3 (below n 4 (below n 5 (below n 6 (below n 7 (below n 8 (below n 9 (below n 10 (below n 11 (below n 12 (below n 13 (below n 14 (below n 15 (below n 16 (below n 17 (below n 18 (below n 19 (below n 20 h d) (r .1)) (r .0 .1)) (r .0 .0 .1)) (r .0 .0 .0 .1)) (r .0 .0 .0 .0 .1)) (r .0 .0 .0 .0 .0 .1)) (r .0 .0 .0 .0 .0 .0 .1)) (r .0 .0 .0 .0 .0 .0 .0 .1)) (r .0 .0 .0 .0 .0 .0 .0 .0 .1)) (r .0 .0 .0 .0 .0 .0 .0 .0 .0 .1)) (r .0 .0 .0 .0 .0 .0 .0 .0 .0 .0 .1)) (r .0 .0 .0 .0 .0 .0 .0 .0 .0 .0 .0 .1)) (r .0 .0 .0 .0 .0 .0 .0 .0 .0 .0 .0 .0 .1)) (r .0 .0 .0 .0 .0 .0 .0 .0 .0 .0 .0 .0 .0 .1)) (r .0 .0 .0 .0 .0 .0 .0 .0 .0 .0 .0 .0 .0 .0 .1)) (r .0 .0 .0 .0 .0 .0 .0 .0 .0 .0 .0 .0 .0 .0 .0 .1)) (r .0 .0 .0 .0 .0 .0 .0 .0 .0 .0 .0 .0 .0 .0 .0 .0 .1)) (r .0 .0 .0 .0 .0 .0 .0 .0 .0 .0 .0 .0 .0 .0 .0 .0 .0 .1)) (r .0 .0 .0 .0 .0 .0 .0 .0 .0 .0 .0 .0 .0 .0 .0 .0 .0 .0 .1)) (r .0 .0 .0 .0 .0 .0 .0 .0 .0 .0 .0 .0 .0 .0 .0 .0 .0 .0 .0 .1)))
-    ]
-
-below-last : (s : tie.Start) → s .args .kind < 21
-below-last s = subst (λ (m : ℕ). s .args .kind < m) count-is (kind-below (s .args .kind) (s .pre .0))
+last-kind : (s : tie.Start) → Excluded 20 (s .args .kind) → s .args .kind ≡ 20
+unfolding kindCount
+last-kind s = only-left (s .args .kind) 20 (kind-below (s .args .kind) (s .pre .0))
 
 -- what the dispatch is given
 abbrev given : tie.Start → Given
@@ -109,7 +93,7 @@ slt-requires : tie.Need-slt-requires
 slt-requires c κs = (c .before .pre .2, arm-slt (given (c .before)) (c .match .keys20) .1 .asks)
 
 ite-requires : tie.Need-ite-requires
-ite-requires c κs = (c .before .pre .1, arm-ite (given (c .before)) (last-kind (c .before .args .kind) (below-last (c .before)) (c .match .rest)) .asks)
+ite-requires c κs = (c .before .pre .1, arm-ite (given (c .before)) (last-kind (c .before) (c .match .rest)) .asks)
 
 returns : tie.Need-returns
 returns c = c .copy .ensures ∙ arm-copy (given (c .before .before)) (c .before .match .keys1) .gives
@@ -172,7 +156,7 @@ returns-20 : tie.Need-returns-20
 returns-20 c = let (w, A) = arm-slt (given (c .before .before)) (c .before .match .keys20) in at-width (c .before .before .args .wt) (c .slt .result) w ∙ c .slt .ensures ∙ A .gives
 
 returns-21 : tie.Need-returns-21
-returns-21 c = c .ite .ensures ∙ arm-ite (given (c .before .before)) (last-kind (c .before .before .args .kind) (below-last (c .before .before)) (c .before .match .rest)) .gives
+returns-21 c = c .ite .ensures ∙ arm-ite (given (c .before .before)) (last-kind (c .before .before) (c .before .match .rest)) .gives
 
 pub apply-spec : {M : Type 1} → statement M
 apply-spec =
