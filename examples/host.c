@@ -4,12 +4,12 @@
 #include <stdio.h>
 #include <string.h>
 
-enum { ROWS = 256, RECORDS = 1024 };
+enum { ROWS = RIFFLERLEEK_ROW_LIMIT, WORDS = RIFFLERLEEK_RECORD_WORDS, RECORDS = RIFFLERLEEK_RECORD_LIMIT };
 
 // The library has no memory of its own: a host lends it these.
 static uint8_t width[ROWS], lock[ROWS];
-static uint32_t mask[ROWS], value[ROWS], words[5 * RECORDS];
-static uint8_t out[44 * ROWS + 24 * RECORDS];
+static uint32_t mask[ROWS], value[ROWS], words[WORDS * RECORDS];
+static uint8_t out[RIFFLERLEEK_ROW_BYTES * ROWS + RIFFLERLEEK_RECORD_BYTES * RECORDS];
 static size_t rows, records;
 
 static const char text[] = "row\tlocked\t0000XXXX\n" // 0: index, 0 to 15
@@ -33,33 +33,33 @@ static int load(const char *bytes)
 {
     const uint8_t *lent = (const uint8_t *)bytes;
     size_t length = strlen(bytes);
-    rifflerleek_answer a = rifflerleek_read(lent, length, width, ROWS, lock, ROWS, mask, ROWS, value, ROWS, words, 5 * RECORDS);
+    rifflerleek_answer a = rifflerleek_read(lent, length, width, ROWS, lock, ROWS, mask, ROWS, value, ROWS, words, WORDS * RECORDS);
     if (refused("read", a)) {
-        if (a.refusal == RIFFLERLEEK_LINE) { // name the operation of the line refused
+        if (a.refusal == RIFFLERLEEK_REFUSED_LINE) { // name the operation of the line refused
             rifflerleek_answer f = rifflerleek_field(lent, length, a.place, 2);
-            printf("its second field: %.*s\n", (int)(f.second - f.first), bytes + f.first);
+            printf("its second field: %.*s\n", (int)(f.second_result - f.result), bytes + f.result);
         }
         return 0; // nothing was loaded
     }
-    rows = a.first;
-    records = a.second;
+    rows = a.result;
+    records = a.second_result;
     return 1;
 }
 
 static void run(void)
 {
-    rifflerleek_answer a = rifflerleek_run(width, rows, lock, rows, mask, rows, value, rows, words, 5 * records, 0, records);
+    rifflerleek_answer a = rifflerleek_run(width, rows, lock, rows, mask, rows, value, rows, words, WORDS * records, 0, records);
     if (refused("run", a)) // the rows are as they were
         return;
-    a = rifflerleek_write(width, rows, lock, rows, mask, rows, value, rows, words, 5 * records, out, sizeof out);
-    fwrite(out, 1, a.first, stdout);
+    a = rifflerleek_write(width, rows, lock, rows, mask, rows, value, rows, words, WORDS * records, out, sizeof out);
+    fwrite(out, 1, a.result, stdout);
 }
 
 static void count(size_t row)
 {
     rifflerleek_answer a = rifflerleek_count(width, rows, lock, rows, mask, rows, value, rows, row);
     if (!refused("count", a))
-        printf("row %zu: %zu unknown bits, %llu numbers\n", row, a.first, (unsigned long long)a.second);
+        printf("row %zu: %zu unknown bits, %llu numbers\n", row, a.result, (unsigned long long)a.second_result);
 }
 
 int main(void)
@@ -74,7 +74,7 @@ int main(void)
     run(); // row 4 is X: some stay inside, some do not
     count(4);
 
-    words[5 * 1 + 1] = 1; // add, into the locked row 1
+    words[WORDS * 1 + 1] = 1; // add, into the locked row 1
     run();
 
     if (load("row\topen\t0X\nop\tadd\t0\t0\t00\t0\n")) // 0 is written with one digit

@@ -1,14 +1,19 @@
 // Rifflerleek in a Rust program: does an index that is partly unknown stay inside its array?
 //   rustc --edition 2021 -L target/staticlib examples/host.rs
 
-/// The calls, as include/rifflerleek.h declares them: a slice is a pointer and a length.
+/// The calls and constants that this program needs, as include/rifflerleek.h has them: a slice is a pointer and a length.
 mod host {
+    pub const ROW_LIMIT: usize = 256;
+    pub const RECORD_LIMIT: usize = 1024;
+    pub const RECORD_WORDS: usize = 5;
+    pub const DONE: u32 = 0;
+
     #[repr(C)]
     pub struct Answer {
         pub refusal: u32,
         pub place: usize,
-        pub first: usize,
-        pub second: u64,
+        pub result: usize,
+        pub second_result: u64,
     }
 
     #[rustfmt::skip]
@@ -30,7 +35,7 @@ struct Refusal {
 
 // Every call answers, on every input: there is nothing to catch.
 fn result(a: host::Answer) -> Result<(usize, u64), Refusal> {
-    if a.refusal == 0 { Ok((a.first, a.second)) } else { Err(Refusal { number: a.refusal, place: a.place }) }
+    if a.refusal == host::DONE { Ok((a.result, a.second_result)) } else { Err(Refusal { number: a.refusal, place: a.place }) }
 }
 
 struct Table {
@@ -55,7 +60,7 @@ macro_rules! call {
 
 impl Table {
     fn read(text: &[u8]) -> Result<Table, Refusal> {
-        let (most, words) = (256, 5 * 1024);
+        let (most, words) = (host::ROW_LIMIT, host::RECORD_WORDS * host::RECORD_LIMIT);
         let mut t = Table { width: vec![0; most], lock: vec![0; most], mask: vec![0; most], value: vec![0; most], words: vec![0; words] };
         let (rows, records) = result(unsafe {
             host::rifflerleek_read(
@@ -67,14 +72,14 @@ impl Table {
         t.lock.truncate(rows);
         t.mask.truncate(rows);
         t.value.truncate(rows);
-        t.words.truncate(5 * records as usize);
+        t.words.truncate(host::RECORD_WORDS * records as usize);
         Ok(t)
     }
 
     // All records; a refusal leaves the rows as they were.
     fn run(&mut self) -> Result<usize, Refusal> {
         let (words, length) = (self.words.as_ptr(), self.words.len());
-        Ok(call!(rifflerleek_run, self, words, length, 0, length / 5)?.0)
+        Ok(call!(rifflerleek_run, self, words, length, 0, length / host::RECORD_WORDS)?.0)
     }
 
     fn count(&mut self, row: usize) -> Result<(usize, u64), Refusal> {
@@ -93,7 +98,7 @@ impl Table {
 /// The field itself, as a part of the text.
 fn field(text: &str, line: usize, field: usize) -> &str {
     let a = unsafe { host::rifflerleek_field(text.as_ptr(), text.len(), line, field) };
-    &text[a.first..a.second as usize]
+    &text[a.result..a.second_result as usize]
 }
 
 const TEXT: &str = "row\tlocked\t0000XXXX
@@ -121,7 +126,7 @@ fn evaluate() -> Result<(), Refusal> {
     t.mask[0] = 0xff;
     t.value[0] = 0;
     run_and_print(&mut t, 4)?; // row 4 is X: some stay inside, some do not
-    t.words[5 + 1] = 1; // add, into the locked row 1
+    t.words[host::RECORD_WORDS + 1] = 1; // add, into the locked row 1
     run_and_print(&mut t, 4)
 }
 

@@ -1,16 +1,23 @@
 /* Rifflerleek: a verified evaluator of three-valued logic, for C and C++. Link with librifflerleek.a (rt staticlib rifflerleek).
  *
- * A table has 1 to 256 rows, lent as four slices of equal length, and at most 1,024 records of five words each.
- *   width[i]  the width of row i, 1 to 32
+ * A table has 1 to RIFFLERLEEK_ROW_LIMIT rows, lent as four slices of equal length, and at most RIFFLERLEEK_RECORD_LIMIT records
+ * of RIFFLERLEEK_RECORD_WORDS words each. Rows and records count from 0.
+ *   width[i]  the width of row i, 1 to RIFFLERLEEK_WIDTH_LIMIT
  *   lock[i]   0 open, 1 locked: a locked row is no record's target
  *   mask[i]   bit k is 1 where bit k of the row is unknown (X)
  *   value[i]  bit k is the row's bit k where that is known, and 0 where it is unknown
  *   words     per record: kind, target row t, operand rows a and b, parameter p; an unused word is 0
  *
- * A slice is passed as a pointer and its number of elements. The pointer is aligned and not NULL, also where the number is 0,
- * and a slice that a call may write overlaps no other slice of that call.
+ * Slices. A slice is passed as a pointer and its number of elements. The pointer is aligned and not NULL, also where the number
+ * is 0, and a slice that a call may write overlaps no other slice of that call.
  *
- * Every call returns by an answer, on every input. A refusal leaves every slice as it was lent.
+ * Answers. Every call returns by an answer, on every input. A refusal leaves every slice as it was lent.
+ *
+ * Memory and threads. A call uses what it is lent and at most RIFFLERLEEK_STACK_LIMIT bytes of stack. It allocates nothing and
+ * keeps nothing between calls, so calls may run on several threads at once, if no slice that one of them may write overlaps a
+ * slice of another.
+ *
+ * The library is for x86-64 Linux.
  */
 #ifndef RIFFLERLEEK_H
 #define RIFFLERLEEK_H
@@ -22,91 +29,119 @@
 extern "C" {
 #endif
 
-/* A result: refusal 0, place 0, and first and second as the call says. A refusal: its number and its place, first and second 0. */
+/* Rises by one with every change that a host can see: of a name, a number, a call, an answer or a lent byte. The header that had
+ * no version is version 1. CHANGELOG.md names the changes. */
+#define RIFFLERLEEK_VERSION 2
+
+/* Limits. */
+#define RIFFLERLEEK_ROW_LIMIT 256      /* rows in a table */
+#define RIFFLERLEEK_RECORD_LIMIT 1024  /* records in a table */
+#define RIFFLERLEEK_RECORD_WORDS 5     /* words in a record */
+#define RIFFLERLEEK_WIDTH_LIMIT 32     /* bits in a row */
+#define RIFFLERLEEK_PARAMETER_LIMIT 31 /* greatest shift, rotation or extract parameter */
+#define RIFFLERLEEK_TEXT_LIMIT 40000   /* bytes in a text */
+#define RIFFLERLEEK_NUMBER_LIMIT 999   /* greatest number in a text */
+
+/* The text of a table has at most ROW_BYTES for each row and RECORD_BYTES for each record: what rifflerleek_size answers. */
+#define RIFFLERLEEK_ROW_BYTES 44
+#define RIFFLERLEEK_RECORD_BYTES 24
+
+/* Bytes of stack that no call exceeds (bash tests/host/run measures it). */
+#define RIFFLERLEEK_STACK_LIMIT 4096
+
+/* A result: refusal is RIFFLERLEEK_DONE, place is 0, and result and second_result are what the call says, else 0. A refusal: its
+ * number and its place; result and second_result are 0. */
 typedef struct rifflerleek_answer {
     uint32_t refusal;
     size_t place;
-    size_t first;
-    uint64_t second;
+    size_t result;
+    uint64_t second_result;
 } rifflerleek_answer;
 
-/* The kinds of records. Their names in a text are these in small letters. */
+/* The kinds of records. Their names in a text are the parts after KIND_, in small letters. */
 enum {
-    RIFFLERLEEK_COPY = 0,
-    RIFFLERLEEK_NOT = 1,
-    RIFFLERLEEK_AND = 2,
-    RIFFLERLEEK_OR = 3,
-    RIFFLERLEEK_XOR = 4,
-    RIFFLERLEEK_SHL = 5,
-    RIFFLERLEEK_LSHR = 6,
-    RIFFLERLEEK_ASHR = 7,
-    RIFFLERLEEK_ROTL = 8,
-    RIFFLERLEEK_EXTRACT = 9,
-    RIFFLERLEEK_CONCAT = 10,
-    RIFFLERLEEK_ZEXT = 11,
-    RIFFLERLEEK_SEXT = 12,
-    RIFFLERLEEK_ADD = 13,
-    RIFFLERLEEK_SUB = 14,
-    RIFFLERLEEK_NEG = 15,
-    RIFFLERLEEK_MUL = 16,
-    RIFFLERLEEK_EQ = 17,
-    RIFFLERLEEK_ULT = 18,
-    RIFFLERLEEK_SLT = 19,
-    RIFFLERLEEK_ITE = 20
+    RIFFLERLEEK_KIND_COPY = 0,
+    RIFFLERLEEK_KIND_NOT = 1,
+    RIFFLERLEEK_KIND_AND = 2,
+    RIFFLERLEEK_KIND_OR = 3,
+    RIFFLERLEEK_KIND_XOR = 4,
+    RIFFLERLEEK_KIND_SHL = 5,
+    RIFFLERLEEK_KIND_LSHR = 6,
+    RIFFLERLEEK_KIND_ASHR = 7,
+    RIFFLERLEEK_KIND_ROTL = 8,
+    RIFFLERLEEK_KIND_EXTRACT = 9,
+    RIFFLERLEEK_KIND_CONCAT = 10,
+    RIFFLERLEEK_KIND_ZEXT = 11,
+    RIFFLERLEEK_KIND_SEXT = 12,
+    RIFFLERLEEK_KIND_ADD = 13,
+    RIFFLERLEEK_KIND_SUB = 14,
+    RIFFLERLEEK_KIND_NEG = 15,
+    RIFFLERLEEK_KIND_MUL = 16,
+    RIFFLERLEEK_KIND_EQ = 17,
+    RIFFLERLEEK_KIND_ULT = 18,
+    RIFFLERLEEK_KIND_SLT = 19,
+    RIFFLERLEEK_KIND_ITE = 20
 };
 
-/* The refusals, and what their place is. The first condition that holds decides: 1, 2, 3; then the rows in order, 4 before 5;
- * then the records in order, 6 to 10 in number order. */
+/* The refusals: their condition, and their place after the semicolon. The first condition that holds refuses, in this order:
+ *   run, size, write   1, 2, 3; then the rows from 0 on, at each 4 before 5; then the records from 0 on, at each 6, 7, 8, 9 and
+ *                      (run alone) 10; then (write alone) 14
+ *   count              1, 2; then the rows from 0 on, at each 4 before 5; then 7
+ *   read               2, 11, 12, 13; the table that was read is checked by run, size and write, not by read
+ *   field              never refuses */
 enum {
-    RIFFLERLEEK_DONE = 0,
-    RIFFLERLEEK_ROWS = 1,     /* the width slice has no row, or over 256; place 0 */
-    RIFFLERLEEK_LENGTHS = 2,  /* the four row slices differ in length; place 0 */
-    RIFFLERLEEK_RECORDS = 3,  /* words not a multiple of five, over 1,024 records, first after last, or last past the end; place 0 */
-    RIFFLERLEEK_WIDTH = 4,    /* a width outside 1 to 32, or a lock over 1; the row */
-    RIFFLERLEEK_VECTOR = 5,   /* mask and value share a set bit, or one has a bit at or above the width; the row */
-    RIFFLERLEEK_KIND = 6,     /* a kind unknown; the record */
-    RIFFLERLEEK_ROW = 7,      /* a used row word outside the table; the record (of count: the row named) */
-    RIFFLERLEEK_WORD = 8,     /* an unused word not 0, or a parameter over 31; the record */
-    RIFFLERLEEK_FIT = 9,      /* the widths of target and operands don't fit the kind; the record */
-    RIFFLERLEEK_LOCKED = 10,  /* the target row is locked; the record, inside the stretch or not */
-    RIFFLERLEEK_LONG = 11,    /* the text has over 40,000 bytes; place 0 */
-    RIFFLERLEEK_LINE = 12,    /* a line outside the grammar, a row line after a record line, or no final LF; the first such line, from 1 */
-    RIFFLERLEEK_ROOM = 13,    /* row lines or record words exceed the lent slices; place 0 */
-    RIFFLERLEEK_BUFFER = 14   /* the output buffer is shorter than size; place 0 */
+    RIFFLERLEEK_DONE = 0,            /* no refusal */
+    RIFFLERLEEK_REFUSED_ROWS = 1,    /* the width slice has no row, or more than the row limit; place 0 */
+    RIFFLERLEEK_REFUSED_LENGTHS = 2, /* the four row slices differ in length; place 0 */
+    RIFFLERLEEK_REFUSED_RECORDS = 3, /* the words are not whole records, or more than the record limit; in run also: first is after
+                                        last, or last is past the end; place 0 */
+    RIFFLERLEEK_REFUSED_WIDTH = 4,   /* a width is 0 or over the width limit, or a lock is over 1; the row */
+    RIFFLERLEEK_REFUSED_VECTOR = 5,  /* mask and value share a set bit, or one has a bit at or above the width; the row */
+    RIFFLERLEEK_REFUSED_KIND = 6,    /* no kind has this number; the record */
+    RIFFLERLEEK_REFUSED_ROW = 7,     /* a used row word is outside the table; the record (of count: the row named) */
+    RIFFLERLEEK_REFUSED_WORD = 8,    /* an unused word is not 0, or a parameter is over the parameter limit; the record */
+    RIFFLERLEEK_REFUSED_FIT = 9,     /* the widths of target and operands do not fit the kind; the record */
+    RIFFLERLEEK_REFUSED_LOCKED = 10, /* the target row is locked; the record, inside the stretch or not */
+    RIFFLERLEEK_REFUSED_LONG = 11,   /* the text is longer than the text limit; place 0 */
+    RIFFLERLEEK_REFUSED_LINE = 12,   /* a line outside the grammar, a row line after a record line, or no final LF; the first such
+                                        line, from 1 (for a missing LF the last line) */
+    RIFFLERLEEK_REFUSED_ROOM = 13,   /* row lines or record words exceed the lent slices; place 0 */
+    RIFFLERLEEK_REFUSED_BUFFER = 14  /* the output buffer is shorter than what size answers; place 0 */
 };
 
-/* Runs the records from first up to but not including last, after a check of the whole table. Result: first is last, and mask
- * and value hold the rows that the stretch leaves, each target the best vector that covers every result. Refusals 1 to 10: no
- * row is changed, also none of the records before the one refused. */
+/* Runs the records from first up to but not including last, after a check of the whole table. result is last, and mask and value
+ * hold the rows that the stretch leaves, each target the best vector that covers every result. Refusals 1 to 10: no row is
+ * changed, also not by the records before the one refused. */
 rifflerleek_answer rifflerleek_run(const uint8_t *width, size_t widths, const uint8_t *lock, size_t locks, uint32_t *mask,
                                    size_t masks, uint32_t *value, size_t values, const uint32_t *words, size_t word_count,
                                    size_t first, size_t last);
 
-/* Counts the unknown bits u of a row. Result: first is u, second is 2^u. Refusals 1, 2, 4, 5, 7. Changes no slice. */
+/* Counts the unknown bits u of a row. result is u, second_result is 2^u. Refusals 1, 2, 4, 5, 7. Changes no slice. */
 rifflerleek_answer rifflerleek_count(const uint8_t *width, size_t widths, const uint8_t *lock, size_t locks,
                                      const uint32_t *mask, size_t masks, const uint32_t *value, size_t values, size_t row);
 
-/* A number of bytes that the table's text does not exceed. Result: first is 44 * rows + 24 * records. Refusals 1 to 9. Changes
- * no slice. */
+/* A number of bytes that the table's text does not exceed. result is RIFFLERLEEK_ROW_BYTES * rows + RIFFLERLEEK_RECORD_BYTES *
+ * records. Refusals 1 to 9. Changes no slice. */
 rifflerleek_answer rifflerleek_size(const uint8_t *width, size_t widths, const uint8_t *lock, size_t locks,
                                     const uint32_t *mask, size_t masks, const uint32_t *value, size_t values,
                                     const uint32_t *words, size_t word_count);
 
-/* Writes the table's text to the start of out. Result: first is the text's number of bytes; the bytes of out after them are as
- * they were. Refusals 1 to 9, then 14: no byte of out is changed. */
+/* Writes the table's text to the start of out. result is the text's number of bytes; the bytes of out after them are as they
+ * were. Refusals 1 to 9, then 14: no byte of out is changed. */
 rifflerleek_answer rifflerleek_write(const uint8_t *width, size_t widths, const uint8_t *lock, size_t locks,
                                      const uint32_t *mask, size_t masks, const uint32_t *value, size_t values,
                                      const uint32_t *words, size_t word_count, uint8_t *out, size_t out_length);
 
-/* Reads a text into the start of the five slices. Result: first is the number of rows, second the number of records; the
- * slices' elements after those are as they were. Refusals 2, 11, 12, 13: no element is changed. */
+/* Reads a text into the start of the five slices. result is the number of rows, second_result the number of records; the slices'
+ * elements after those are as they were. Refusals 2, 11, 12, 13: no element is changed. An empty text has no rows and no
+ * records; the row slices may be longer than RIFFLERLEEK_ROW_LIMIT. */
 rifflerleek_answer rifflerleek_read(const uint8_t *text, size_t text_length, uint8_t *width, size_t widths, uint8_t *lock,
                                     size_t locks, uint32_t *mask, size_t masks, uint32_t *value, size_t values,
                                     uint32_t *words, size_t word_count);
 
-/* Where a field of a text lies, by line number and field number, both from 1; bytes after the last LF count as a line. Result:
- * the bytes text[first] up to but not including text[second]. Where there is no such field both ends are the same: number 0
- * names the start of the text or of the line, a number too high its end. Never refuses. */
+/* Where a field of a text lies, by line number and field number, both from 1; bytes after the last LF count as a line. The field
+ * is the bytes text[result] up to but not including text[second_result]. Where there is no such field both ends are the same:
+ * number 0 names the start of the text or of the line, a number too high its end. Never refuses. */
 rifflerleek_answer rifflerleek_field(const uint8_t *text, size_t text_length, size_t line, size_t field);
 
 #ifdef __cplusplus

@@ -46,21 +46,21 @@ struct ref_table lend_table(struct draft *d, struct ref_table *reference)
     library.lock = lend(d->lock, d->locks, &reference->lock);
     library.mask = lend(d->mask, 4 * d->masks, &reference->mask);
     library.value = lend(d->value, 4 * d->values, &reference->value);
-    library.words = lend(d->words, 4 * d->wordCount, &reference->words);
+    library.words = lend(d->words, 4 * d->word_count, &reference->words);
     return library;
 }
 
 static void fail(int name, const char *what, rifflerleek_answer a, struct ref_answer b)
 {
     printf("call %zu, %s: %s\n", call_number, call_names[name], what);
-    printf("library:   refusal %u place %zu first %zu second %llu\n", a.refusal, a.place, a.first, (unsigned long long)a.second);
-    printf("reference: refusal %u place %zu first %zu second %llu\n", b.refusal, b.place, b.first, (unsigned long long)b.second);
+    printf("library:   refusal %u place %zu result %zu second_result %llu\n", a.refusal, a.place, a.result, (unsigned long long)a.second_result);
+    printf("reference: refusal %u place %zu result %zu second_result %llu\n", b.refusal, b.place, b.result, (unsigned long long)b.second_result);
     exit(1);
 }
 
 void compare(int name, rifflerleek_answer a, struct ref_answer b)
 {
-    if (a.refusal != b.refusal || a.place != b.place || a.first != b.first || a.second != b.second)
+    if (a.refusal != b.refusal || a.place != b.place || a.result != b.result || a.second_result != b.second_result)
         fail(name, "the answers differ", a, b);
     while (lent_count > 0) {
         struct lent *l = &lent[--lent_count];

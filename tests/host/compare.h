@@ -2,7 +2,7 @@
 #ifndef COMPARE_H
 #define COMPARE_H
 
-#include "../../include/rifflerleek.h"
+#include "library.h"
 #include "draw.h"
 
 enum { RUN, COUNT, SIZE, WRITE, READ, FIELD, CALLS, REFUSALS = 15 };

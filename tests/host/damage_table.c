@@ -35,13 +35,13 @@ static void damage_lengths(struct draft *d)
 
 static void damage_stretch(struct draft *d)
 {
-    size_t records = d->wordCount / 5, many = 5 * (1025 + below(3));
+    size_t records = d->word_count / 5, many = 5 * (1025 + below(3));
     switch (below(6)) {
-    case 0: d->wordCount += 1 + below(4); return;
-    case 1: d->wordCount -= d->wordCount < 4 ? d->wordCount : 1 + below(4); return;
+    case 0: d->word_count += 1 + below(4); return;
+    case 1: d->word_count -= d->word_count < 4 ? d->word_count : 1 + below(4); return;
     case 2:
-        for (; d->wordCount < many; d->wordCount++)
-            d->words[d->wordCount] = d->wordCount < 5 ? 0 : d->words[d->wordCount - 5];
+        for (; d->word_count < many; d->word_count++)
+            d->words[d->word_count] = d->word_count < 5 ? 0 : d->words[d->word_count - 5];
         return;
     case 3: d->first = d->last + 1 + below(3); return;
     case 4: d->last = percent(30) ? SIZE_MAX : records + 1 + below(5); return;
@@ -85,7 +85,7 @@ static uint32_t far_off(uint32_t limit)
 
 static void damage_record(struct draft *d, unsigned number)
 {
-    uint32_t *w = d->words + 5 * below(d->wordCount / 5);
+    uint32_t *w = d->words + 5 * below(d->word_count / 5);
     uint32_t rows = (uint32_t)d->widths, kind = w[0] < KINDS ? w[0] : 0;
     size_t last_row = kind == ITE ? 4 : kinds[kind].b == ROW ? 3 : 2;
     switch (number) {
@@ -111,6 +111,6 @@ void damage_table(struct draft *d, unsigned number)
         damage_row(d);
     else if (d->widths > 0 && number == 5)
         damage_vector(d);
-    else if (d->widths > 0 && d->wordCount >= 5 && number >= 6)
+    else if (d->widths > 0 && d->word_count >= 5 && number >= 6)
         damage_record(d, number);
 }

@@ -1,13 +1,14 @@
 // Random calls, valid and damaged: the library and the reference must give the same answer and leave the same bytes, also
-// around and beyond what they write. Every refusal of every call, and every kind of record, must occur.
+// around and beyond what they write. Every answer of every call, and every kind of record, must occur, and no call may take more
+// stack than the header says.
 // usage: differential [SEED [CALLS]]
 #include "compare.h"
 #include <stdio.h>
 #include <stdlib.h>
 #include <time.h>
 
-// The refusals that each call has, as bits.
-static const unsigned refusals[CALLS] = {0x7fe, 0x0b6, 0x3fe, 0x43fe, 0x3804, 0};
+// The answers that each call has, as bits: bit 0 for a result, bit n for refusal n.
+static const unsigned answers[CALLS] = {0x7ff, 0x0b7, 0x3ff, 0x43ff, 0x3805, 0x0001};
 
 static unsigned steps[KINDS];
 
@@ -34,8 +35,7 @@ static void call_run(void)
         ref_run(&r, d.first, d.last, LIMIT, &exact);
     }
     t = lend_table(&d, &r);
-    rifflerleek_answer a = rifflerleek_run(t.width, t.widths, t.lock, t.locks, t.mask, t.masks, t.value, t.values, t.words,
-                                           t.wordCount, d.first, d.last);
+    rifflerleek_answer a = library_run(&t, d.first, d.last);
     compare(RUN, a, ref_run(&r, d.first, d.last, LIMIT, &exact));
     for (size_t i = d.first; i < d.last && a.refusal == 0; i++)
         steps[d.words[5 * i]]++;
@@ -47,7 +47,7 @@ static void call_count(void)
     table();
     size_t row = percent(70) ? below(d.widths + 1) : percent(30) ? SIZE_MAX : d.widths + below(300);
     t = lend_table(&d, &r);
-    compare(COUNT, rifflerleek_count(t.width, t.widths, t.lock, t.locks, t.mask, t.masks, t.value, t.values, row), ref_count(&r, row));
+    compare(COUNT, library_count(&t, row), ref_count(&r, row));
 }
 
 static void call_size(void)
@@ -55,7 +55,7 @@ static void call_size(void)
     struct ref_table r, t;
     table();
     t = lend_table(&d, &r);
-    compare(SIZE, rifflerleek_size(t.width, t.widths, t.lock, t.locks, t.mask, t.masks, t.value, t.values, t.words, t.wordCount), ref_size(&r));
+    compare(SIZE, library_size(&t), ref_size(&r));
 }
 
 static void call_write(void)
@@ -64,7 +64,7 @@ static void call_write(void)
     struct ref_table r, t;
     uint8_t *other;
     table();
-    size_t size = 44 * d.widths + 24 * (d.wordCount / 5);
+    size_t size = 44 * d.widths + 24 * (d.word_count / 5);
     size_t lengths[] = {size, size + below(100), size + below(100), size - (size > 0), below(size + 1), 0};
     size_t length = lengths[below(6)];
     length = length > sizeof buffer ? sizeof buffer : length;
@@ -72,9 +72,7 @@ static void call_write(void)
         buffer[i] = (uint8_t)draw();
     t = lend_table(&d, &r);
     uint8_t *out = lend(buffer, length, &other);
-    rifflerleek_answer a = rifflerleek_write(t.width, t.widths, t.lock, t.locks, t.mask, t.masks, t.value, t.values, t.words,
-                                             t.wordCount, out, length);
-    compare(WRITE, a, ref_write(&r, other, length));
+    compare(WRITE, library_write(&t, out, length), ref_write(&r, other, length));
 }
 
 // Slices that hold a text, or just not, filled with any bytes.
@@ -82,9 +80,9 @@ static void room(void)
 {
     size_t more = percent(50) ? 0 : below(5), words = percent(50) ? 0 : below(20);
     d.widths = percent(15) && text.rows > 0 ? text.rows - 1 : text.rows + more;
-    d.wordCount = 5 * text.records + words;
+    d.word_count = 5 * text.records + words;
     if (percent(15) && text.records > 0)
-        d.wordCount = 5 * text.records - 1 - below(5);
+        d.word_count = 5 * text.records - 1 - below(5);
     d.locks = d.masks = d.values = d.widths;
     size_t *lengths[] = {&d.widths, &d.locks, &d.masks, &d.values};
     if (percent(8))
@@ -93,7 +91,7 @@ static void room(void)
         d.width[i] = d.lock[i] = (uint8_t)draw();
         d.mask[i] = d.value[i] = (uint32_t)draw();
     }
-    for (size_t i = 0; i < d.wordCount; i++)
+    for (size_t i = 0; i < d.word_count; i++)
         d.words[i] = (uint32_t)draw();
 }
 
@@ -108,9 +106,7 @@ static void call_read(void)
     room();
     t = lend_table(&d, &r);
     uint8_t *lent_text = lend(text.bytes, text.length, &other);
-    rifflerleek_answer a = rifflerleek_read(lent_text, text.length, t.width, t.widths, t.lock, t.locks, t.mask, t.masks, t.value,
-                                            t.values, t.words, t.wordCount);
-    compare(READ, a, ref_read(other, text.length, &r));
+    compare(READ, library_read(lent_text, text.length, &t), ref_read(other, text.length, &r));
 }
 
 static void call_field(void)
@@ -122,10 +118,10 @@ static void call_field(void)
             text.bytes[i] = (uint8_t)"\t\n\0a"[below(4)];
     size_t line = percent(90) ? below(14) : draw(), field = percent(90) ? below(9) : draw();
     uint8_t *lent_text = lend(text.bytes, text.length, &other);
-    compare(FIELD, rifflerleek_field(lent_text, text.length, line, field), ref_field(other, text.length, line, field));
+    compare(FIELD, library_field(lent_text, text.length, line, field), ref_field(other, text.length, line, field));
 }
 
-// How often each refusal and each kind was seen, and how many were not.
+// How often each answer and each kind was seen, and how many were not.
 static int report(void)
 {
     int missing = 0;
@@ -138,7 +134,7 @@ static int report(void)
         for (int n = 0; n < REFUSALS; n++) {
             unsigned count = name < CALLS ? seen[name][n] : all[n];
             all[n] += name < CALLS ? count : 0;
-            missing += name < CALLS && (refusals[name] >> n & 1) && count == 0;
+            missing += name < CALLS && (answers[name] >> n & 1) && count == 0;
             printf(n == 0 ? "%7u" : "%6u", count);
         }
     }
@@ -162,7 +158,9 @@ int main(int argc, char **argv)
     for (call_number = 0; call_number < count; call_number++)
         calls[below(10)]();
     int missing = report();
-    printf("library and reference agree on every answer and every byte, in %.1f s; refusals and kinds never seen: %d\n",
+    size_t stack = library_stack();
+    printf("library and reference agree on every answer and every byte, in %.1f s; answers and kinds never seen: %d\n",
            (double)clock() / CLOCKS_PER_SEC, missing);
-    return missing != 0;
+    printf("a call takes at most %zu bytes of stack; the header allows %d\n", stack, RIFFLERLEEK_STACK_LIMIT);
+    return missing != 0 || stack > RIFFLERLEEK_STACK_LIMIT;
 }

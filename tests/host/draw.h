@@ -11,7 +11,7 @@ enum { MAX_ROWS = 4000, MAX_WORDS = 15000, MAX_TEXT = 60000, LIMIT = 14 };
 struct draft {
     uint8_t width[MAX_ROWS], lock[MAX_ROWS];
     uint32_t mask[MAX_ROWS], value[MAX_ROWS], words[MAX_WORDS];
-    size_t widths, locks, masks, values, wordCount, first, last;
+    size_t widths, locks, masks, values, word_count, first, last;
 };
 
 struct text {

@@ -30,7 +30,7 @@ int percent(unsigned p)
 struct ref_table slices(struct draft *d)
 {
     return (struct ref_table){d->width,  d->lock,   d->mask,  d->value,  d->words,
-                              d->widths, d->locks, d->masks, d->values, d->wordCount};
+                              d->widths, d->locks, d->masks, d->values, d->word_count};
 }
 
 static unsigned draw_width(void)
@@ -119,7 +119,7 @@ void draw_table(struct draft *d)
     d->widths = large ? 256 - below(3) : percent(10) ? 1 : percent(70) ? 2 + below(7) : 2 + below(30);
     d->locks = d->masks = d->values = d->widths;
     size_t records = large ? 1024 - below(3) : below(12);
-    d->wordCount = 5 * records;
+    d->word_count = 5 * records;
     draw_widths(d);
     draw_vectors(d);
     for (size_t i = 0; i < d->widths; i++)

@@ -8,15 +8,15 @@
 // A result (refusal 0) or a refusal.
 struct ref_answer {
     uint32_t refusal;
-    size_t place, first;
-    uint64_t second;
+    size_t place, result;
+    uint64_t second_result;
 };
 
 // Five lent slices, each with its own length.
 struct ref_table {
     uint8_t *width, *lock;
     uint32_t *mask, *value, *words;
-    size_t widths, locks, masks, values, wordCount;
+    size_t widths, locks, masks, values, word_count;
 };
 
 enum { KINDS = 21, ITE = 20 };
@@ -45,11 +45,11 @@ uint64_t ref_plain(const struct ref_op *o, uint64_t a, uint64_t b, uint64_t c);
 // The operands' bits that can make a difference to bit k of the result.
 void ref_needed(const struct ref_op *o, unsigned k, uint64_t need[3]);
 
-struct ref_answer ref_result(size_t first, uint64_t second);
+struct ref_answer ref_result(size_t result, uint64_t second_result);
 struct ref_answer ref_refusal(uint32_t number, size_t place);
 
-// Refusals 6 to 10 of record r alone, 10 only where lockedToo: a refusal number, or 0.
-uint32_t ref_record(const struct ref_table *t, size_t r, int lockedToo);
+// Refusals 6 to 10 of record r alone, 10 only where locked_too: a refusal number, or 0.
+uint32_t ref_record(const struct ref_table *t, size_t r, int locked_too);
 
 // Refusals 1 to 10: without a stretch (no check of first and last, and no 10) where run is 0.
 struct ref_answer ref_check(const struct ref_table *t, int run, size_t first, size_t last);

@@ -11,9 +11,9 @@ const struct kind kinds[KINDS] = {
     {"ult", ROW, ROW, NOTHING},      {"slt", ROW, ROW, NOTHING},         {"ite", ROW, ROW, ROW},
 };
 
-struct ref_answer ref_result(size_t first, uint64_t second)
+struct ref_answer ref_result(size_t result, uint64_t second_result)
 {
-    return (struct ref_answer){0, 0, first, second};
+    return (struct ref_answer){0, 0, result, second_result};
 }
 
 struct ref_answer ref_refusal(uint32_t number, size_t place)
@@ -39,7 +39,7 @@ static int misused(enum use use, uint32_t word)
     return (use == NOTHING && word != 0) || (use == NUMBER && word > 31);
 }
 
-uint32_t ref_record(const struct ref_table *t, size_t r, int lockedToo)
+uint32_t ref_record(const struct ref_table *t, size_t r, int locked_too)
 {
     const uint32_t *w = t->words + 5 * r;
     size_t n = t->widths;
@@ -53,7 +53,7 @@ uint32_t ref_record(const struct ref_table *t, size_t r, int lockedToo)
     unsigned wb = k.b == ROW ? t->width[w[3]] : 0, wp = k.p == ROW ? t->width[w[4]] : 0;
     if (!widths_fit(w[0], t->width[w[1]], t->width[w[2]], wb, wp, w[4]))
         return 9;
-    return lockedToo && t->lock[w[1]] == 1 ? 10 : 0;
+    return locked_too && t->lock[w[1]] == 1 ? 10 : 0;
 }
 
 static uint32_t row_refusal(const struct ref_table *t, size_t i)
@@ -88,14 +88,14 @@ struct ref_answer ref_check(const struct ref_table *t, int run, size_t first, si
     struct ref_answer a = check_slices(t);
     if (a.refusal != 0)
         return a;
-    if (t->wordCount % 5 != 0 || t->wordCount / 5 > 1024)
+    if (t->word_count % 5 != 0 || t->word_count / 5 > 1024)
         return ref_refusal(3, 0);
-    if (run && (first > last || last > t->wordCount / 5))
+    if (run && (first > last || last > t->word_count / 5))
         return ref_refusal(3, 0);
     a = check_rows(t);
     if (a.refusal != 0)
         return a;
-    for (size_t r = 0; r < t->wordCount / 5; r++)
+    for (size_t r = 0; r < t->word_count / 5; r++)
         if (ref_record(t, r, run) != 0)
             return ref_refusal(ref_record(t, r, run), r);
     return ref_result(0, 0);
@@ -119,5 +119,5 @@ struct ref_answer ref_count(const struct ref_table *t, size_t row)
 struct ref_answer ref_size(const struct ref_table *t)
 {
     struct ref_answer a = ref_check(t, 0, 0, 0);
-    return a.refusal != 0 ? a : ref_result(44 * t->widths + 24 * (t->wordCount / 5), 0);
+    return a.refusal != 0 ? a : ref_result(44 * t->widths + 24 * (t->word_count / 5), 0);
 }

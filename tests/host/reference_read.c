@@ -119,7 +119,7 @@ struct ref_answer ref_read(const uint8_t *text, size_t length, struct ref_table 
     size_t bad = lines(whole, t, 0, &rows, &records);
     if (bad != 0)
         return ref_refusal(12, bad);
-    if (rows > t->widths || 5 * records > t->wordCount)
+    if (rows > t->widths || 5 * records > t->word_count)
         return ref_refusal(13, 0);
     lines(whole, t, 1, &rows, &records);
     return ref_result(rows, records);

@@ -13,7 +13,7 @@ static size_t print_table(const struct ref_table *t, char *out)
             *at++ = t->mask[i] >> k & 1 ? 'X' : t->value[i] >> k & 1 ? '1' : '0';
         *at++ = '\n';
     }
-    for (size_t r = 0; r < t->wordCount / 5; r++) {
+    for (size_t r = 0; r < t->word_count / 5; r++) {
         const uint32_t *w = t->words + 5 * r;
         at += sprintf(at, "op\t%s\t%u\t%u\t%u\t%u\n", kinds[w[0]].name, w[1], w[2], w[3], w[4]);
     }
@@ -26,7 +26,7 @@ struct ref_answer ref_write(const struct ref_table *t, uint8_t *out, size_t leng
     struct ref_answer a = ref_size(t);
     if (a.refusal != 0)
         return a;
-    if (length < a.first)
+    if (length < a.result)
         return ref_refusal(14, 0);
     size_t n = print_table(t, text);
     memcpy(out, text, n);

@@ -2,7 +2,7 @@
 
 pub mod cut; // cut.rt: parts of a text
 pub mod fields; // fields.rt: what a field tells
-mod limits; // limits.rt: numbers that 01 sets
+pub mod limits; // limits.rt: numbers that 01 sets
 pub mod line; // line.rt: what a line tells
 pub mod put; // put.rt: words, numbers and lines written
 pub mod words; // words.rt: words compared

@@ -2,4 +2,4 @@
 
 pub(crate) const WIDTH_LIMIT: usize = 32;
 
-pub(crate) const NUMBER_LIMIT: u32 = 999;
+pub const NUMBER_LIMIT: u32 = 999;

@@ -14,10 +14,10 @@ use Rattle.texts.specs.Calls.{Written, Counts, ReadBack}
 use Rattle.rifflerleek.specs.declared.Answer.{Answer as HostAnswer}
 
 abbrev pub hostResult : ℕ → ℕ → HostAnswer
-hostResult a b = record { refusal = 0; place = 0; first = a; second = b }
+hostResult a b = record { refusal = 0; place = 0; result = a; «second_result» = b }
 
 abbrev pub hostRefusal : ℕ → ℕ → HostAnswer
-hostRefusal number place = record { refusal = number; place = place; first = 0; second = 0 }
+hostRefusal number place = record { refusal = number; place = place; result = 0; «second_result» = 0 }
 
 abbrev pub numberAnswer : Answer ℕ → HostAnswer
 numberAnswer (done n) = hostResult n 0

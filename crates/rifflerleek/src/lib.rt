@@ -23,19 +23,22 @@ use texts::ReadAnswer;
 pub struct Answer {
     pub refusal: u32,
     pub place: usize,
-    pub first: usize,
-    pub second: u64,
+    pub result: usize,
+    pub second_result: u64,
 }
 
+// The number in place of a refusal where there is none.
+pub const DONE: u32 = 0;
+
 // A result of two numbers.
-fn done(first: usize, second: u64) -> Answer
-    ensures { λ r. ⌜ r ≡ hostResult first second ⌝ }
+fn done(result: usize, second: u64) -> Answer
+    ensures { λ r. ⌜ r ≡ hostResult result second ⌝ }
 {
     Answer {
-        refusal: 0,
+        refusal: DONE,
         place: 0,
-        first: first,
-        second: second,
+        result: result,
+        second_result: second,
     }
 }
 
@@ -46,12 +49,12 @@ fn refused(why: Refusal) -> Answer
     Answer {
         refusal: why.number,
         place: why.place,
-        first: 0,
-        second: 0,
+        result: 0,
+        second_result: 0,
     }
 }
 
-// Runs the stretch of records from first up to but not including last; `first` of the answer is last.
+// Runs the stretch of records from first up to but not including last; `result` of the answer is last.
 #[no_mangle]
 pub extern "C" fn rifflerleek_run(
     width: &[u8],
@@ -71,7 +74,7 @@ pub extern "C" fn rifflerleek_run(
     }
 }
 
-// Counts the unknown bits u of a row: `first` of the answer is u, `second` is 2^u.
+// Counts the unknown bits u of a row: `result` of the answer is u, `second_result` is 2^u.
 #[no_mangle]
 pub extern "C" fn rifflerleek_count(
     width: &[u8],
@@ -88,7 +91,7 @@ pub extern "C" fn rifflerleek_count(
     }
 }
 
-// A number of bytes that the table's text does not exceed: `first` of the answer.
+// A number of bytes that the table's text does not exceed: `result` of the answer.
 #[no_mangle]
 pub extern "C" fn rifflerleek_size(
     width: &[u8],
@@ -105,7 +108,7 @@ pub extern "C" fn rifflerleek_size(
     }
 }
 
-// Writes the table's text into the lent buffer: `first` of the answer is its byte count.
+// Writes the table's text into the lent buffer: `result` of the answer is its byte count.
 #[no_mangle]
 pub extern "C" fn rifflerleek_write(
     width: &[u8],
@@ -123,7 +126,7 @@ pub extern "C" fn rifflerleek_write(
     }
 }
 
-// Reads a text into the lent slices: `first` of the answer is the number of rows, `second` that of records.
+// Reads a text into the lent slices: `result` of the answer is the number of rows, `second_result` that of records.
 #[no_mangle]
 pub extern "C" fn rifflerleek_read(
     text: &[u8],
@@ -141,7 +144,7 @@ pub extern "C" fn rifflerleek_read(
     }
 }
 
-// Where the field of a line lies in the text, both numbered from 1: from `first` of the answer up to but not including `second`. It never refuses.
+// Where the field of a line lies in the text, both numbered from 1: from `result` of the answer up to but not including `second_result`. It never refuses.
 #[no_mangle]
 pub extern "C" fn rifflerleek_field(text: &[u8], line: usize, field: usize) -> Answer
     ensures { λ r. ⌜ r ≡ endsAnswer (fieldEnds (now (text .entry)) line field) ⌝ }

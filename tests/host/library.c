@@ -1,0 +1,121 @@
+// The library's calls on slices lent together, each made on a stack of its own, so that the stack it takes can be measured.
+#include "library.h"
+#include <string.h>
+#include <ucontext.h>
+
+enum { STACK = 1 << 16, PAINT = 0x5c };
+
+// The call at hand: its slices, its buffer or text, its two numbers, and its answer.
+static struct {
+    struct ref_table t;
+    uint8_t *out;
+    const uint8_t *text;
+    size_t length, x, y;
+    rifflerleek_answer answer;
+} call;
+
+static unsigned char stack[STACK];
+static ucontext_t here, there;
+
+// Makes the call on the stack, which is painted before the first one: what a call writes there stays visible.
+static rifflerleek_answer on_stack(void (*make)(void))
+{
+    static int painted;
+    if (!painted)
+        memset(stack, PAINT, STACK);
+    painted = 1;
+    getcontext(&there);
+    there.uc_stack.ss_sp = stack;
+    there.uc_stack.ss_size = STACK;
+    there.uc_link = &here;
+    makecontext(&there, make, 0);
+    swapcontext(&here, &there);
+    return call.answer;
+}
+
+size_t library_stack(void)
+{
+    size_t untouched = 0;
+    while (untouched < STACK && stack[untouched] == PAINT)
+        untouched++;
+    return STACK - untouched;
+}
+
+#define ROWS call.t.width, call.t.widths, call.t.lock, call.t.locks, call.t.mask, call.t.masks, call.t.value, call.t.values
+#define WORDS call.t.words, call.t.word_count
+
+static void make_run(void)
+{
+    call.answer = rifflerleek_run(ROWS, WORDS, call.x, call.y);
+}
+
+static void make_count(void)
+{
+    call.answer = rifflerleek_count(ROWS, call.x);
+}
+
+static void make_size(void)
+{
+    call.answer = rifflerleek_size(ROWS, WORDS);
+}
+
+static void make_write(void)
+{
+    call.answer = rifflerleek_write(ROWS, WORDS, call.out, call.length);
+}
+
+static void make_read(void)
+{
+    call.answer = rifflerleek_read(call.text, call.length, ROWS, WORDS);
+}
+
+static void make_field(void)
+{
+    call.answer = rifflerleek_field(call.text, call.length, call.x, call.y);
+}
+
+rifflerleek_answer library_run(struct ref_table *t, size_t first, size_t last)
+{
+    call.t = *t;
+    call.x = first;
+    call.y = last;
+    return on_stack(make_run);
+}
+
+rifflerleek_answer library_count(struct ref_table *t, size_t row)
+{
+    call.t = *t;
+    call.x = row;
+    return on_stack(make_count);
+}
+
+rifflerleek_answer library_size(struct ref_table *t)
+{
+    call.t = *t;
+    return on_stack(make_size);
+}
+
+rifflerleek_answer library_write(struct ref_table *t, uint8_t *out, size_t length)
+{
+    call.t = *t;
+    call.out = out;
+    call.length = length;
+    return on_stack(make_write);
+}
+
+rifflerleek_answer library_read(const uint8_t *text, size_t length, struct ref_table *t)
+{
+    call.t = *t;
+    call.text = text;
+    call.length = length;
+    return on_stack(make_read);
+}
+
+rifflerleek_answer library_field(const uint8_t *text, size_t length, size_t line, size_t field)
+{
+    call.text = text;
+    call.length = length;
+    call.x = line;
+    call.y = field;
+    return on_stack(make_field);
+}

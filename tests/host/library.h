@@ -1,0 +1,18 @@
+// The library's calls on slices lent together, each made on a stack of its own, so that the stack it takes can be measured.
+#ifndef LIBRARY_H
+#define LIBRARY_H
+
+#include "../../include/rifflerleek.h"
+#include "reference.h"
+
+rifflerleek_answer library_run(struct ref_table *t, size_t first, size_t last);
+rifflerleek_answer library_count(struct ref_table *t, size_t row);
+rifflerleek_answer library_size(struct ref_table *t);
+rifflerleek_answer library_write(struct ref_table *t, uint8_t *out, size_t length);
+rifflerleek_answer library_read(const uint8_t *text, size_t length, struct ref_table *t);
+rifflerleek_answer library_field(const uint8_t *text, size_t length, size_t line, size_t field);
+
+// The most bytes of stack that a call has taken so far, its arguments and its return address among them.
+size_t library_stack(void);
+
+#endif
