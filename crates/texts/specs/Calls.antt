@@ -7,11 +7,13 @@
 --   Counts, countsOf t           how many rows and records
 --   ReadBack, readOf text lent   read's answer, and the five slices that it leaves;   readAs   these of a verdict of read's checks
 --   filledWith new lent          the slices with the table new at their start
+--   firstOf c slices             the first rows and records of the slices, as many as c counts
 use mathlib.Core.Bool.{Bool, false, not}
 use mathlib.Core.List.{List, [], _∷_, _++_}
-use Prim.Native.Nat.{ℕ}
+use Prim.Native.Nat.{ℕ, _*_}
 use lib.Dec.{ltb, eqb}
-use lib.ListN.{length}
+use lib.ListN.{length, take}
+use Rattle.operations.specs.Limits.{recordWords}
 use Rattle.operations.specs.Record.{fault}
 use Rattle.checks.specs.Check.{Answer, done, refused, Check, verdict, placed}
 use Rattle.checks.specs.Table.{Table, recordCount}
@@ -99,3 +101,14 @@ readAs (refused number place) new lent = record { answer = refused number place;
 
 unfoldable pub readOf : List ℕ → Table → ReadBack
 readOf text lent = readAs (verdict (readChecks text lent) (countsOf (tableRead text))) (tableRead text) lent
+
+-- where the table is that read left, by the counts that it answers
+abbrev pub firstOf : Counts → Table → Table
+firstOf c slices =
+    record {
+      widths = take (c .rows) (slices .widths);
+      locks = take (c .rows) (slices .locks);
+      masks = take (c .rows) (slices .masks);
+      values = take (c .rows) (slices .values);
+      words = take (recordWords * c .records) (slices .words);
+    }

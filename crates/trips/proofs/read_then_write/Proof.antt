@@ -1,12 +1,13 @@
--- `texts::trips::read_then_write`: what read leaves is what write is given. Assumes nothing.
+-- `trips::read_then_write`: what read leaves is what write is given. Assumes nothing.
 use mathlib.Core.Path.{sym}
 use native.Mathlib.Omega.{arith}
 use lib.Seq.{length-take-le}
 use Rattle.checks.specs.Model.{lent}
-use Rattle.texts.proofs.TripCalls.{read-room, not-read, bytes-trip}
+use Rattle.texts.proofs.ReadLeft.{read-room}
+use Rattle.trips.proofs.TripCalls.{not-read, bytes-trip}
 use borrow.Author.Needs.{needs}
-use Rattle.texts.proofs.trips.read_then_write.Statement.{statement}
-use Rattle.texts.proofs.trips.read_then_write.Tie as tie
+use Rattle.trips.proofs.read_then_write.Statement.{statement}
+use Rattle.trips.proofs.read_then_write.Tie as tie
 
 mul-n : tie.Need-mul-n
 mul-n c =

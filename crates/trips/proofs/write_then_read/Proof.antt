@@ -1,12 +1,12 @@
--- `texts::trips::write_then_read`: what write leaves is what read is given. Assumes nothing.
+-- `trips::write_then_read`: what write leaves is what read is given. Assumes nothing.
 use mathlib.Core.Path.{sym}
 use lib.Seq.{length-take-le}
 use Rattle.checks.specs.Model.{lent}
 use Rattle.texts.specs.Model.{readLeft}
-use Rattle.texts.proofs.TripCalls.{write-room, not-written, table-trip}
+use Rattle.trips.proofs.TripCalls.{write-room, not-written, table-trip}
 use borrow.Author.Needs.{needs}
-use Rattle.texts.proofs.trips.write_then_read.Statement.{statement}
-use Rattle.texts.proofs.trips.write_then_read.Tie as tie
+use Rattle.trips.proofs.write_then_read.Statement.{statement}
+use Rattle.trips.proofs.write_then_read.Tie as tie
 
 slice-reshare-prefix-read : tie.Need-slice-reshare-prefix-read
 slice-reshare-prefix-read c =
