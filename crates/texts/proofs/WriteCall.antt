@@ -16,7 +16,7 @@ use borrow.Author.Tests.{lt-ltb}
 use Rattle.operations.specs.Record.{fault}
 use Rattle.checks.specs.Check.{Answer, done, refused, verdict, placed}
 use Rattle.checks.specs.Table.{Table}
-use Rattle.checks.specs.Checks.{sizeBound, bufferShort, sizeChecks, writeChecks}
+use Rattle.checks.specs.Checks.{sizeChecks}
 use Rattle.checks.specs.Accepted.{TablePassed}
 use Rattle.checks.specs.Model.{judged, verdictModel}
 use Rattle.checks.specs.declared.Refusal.{Refusal}
@@ -26,7 +26,7 @@ use Rattle.checks.proofs.Verdicts.{verdict-passed, verdict-refused, passed-appe
 use Rattle.checks.proofs.Accepts.{passed-of-table, table-of-answer, answer-of-table}
 use Rattle.grammar.specs.Lists.{filled}
 use Rattle.grammar.specs.Print.{linesText, rowLines, recordLines, tableLines, textOf}
-use Rattle.texts.specs.Calls.{sizeOf, writtenAs, writeOf}
+use Rattle.texts.specs.Calls.{sizeBound, sizeOf, bufferShort, writeChecks, writtenAs, writeOf}
 use Rattle.grammar.proofs.WordUses.{words-length}
 use Rattle.grammar.proofs.Sizes.{lines-append, text-size}
 use Rattle.texts.specs.Model.{bytesModel}

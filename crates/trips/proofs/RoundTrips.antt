@@ -11,7 +11,7 @@ use lib.ListN.{length, take}
 use Rattle.operations.specs.Record.{fault}
 use Rattle.checks.specs.Check.{Answer, done, refused, verdict, Passed, placed}
 use Rattle.checks.specs.Table.{Table}
-use Rattle.checks.specs.Checks.{sizeBound, bufferShort, sizeChecks, writeChecks}
+use Rattle.checks.specs.Checks.{sizeChecks}
 use Rattle.checks.specs.Accepted.{TablePassed}
 use Rattle.checks.proofs.Verdicts.{passed-left, passed-right, passed-of-done}
 use Rattle.checks.proofs.Accepts.{table-of-passed}
@@ -21,7 +21,7 @@ use Rattle.grammar.specs.Lines.{tableRead}
 use Rattle.grammar.proofs.WriteRead.{text-good, text-table}
 use Rattle.grammar.proofs.ReadWrite.{table-text}
 use Rattle.grammar.proofs.Sizes.{text-size}
-use Rattle.texts.specs.Calls.{Written, writtenAs, writeOf, Counts, countsOf, filledWith, readOf, firstOf}
+use Rattle.texts.specs.Calls.{sizeBound, bufferShort, writeChecks, Written, writtenAs, writeOf, Counts, countsOf, filledWith, readOf, firstOf}
 use Rattle.texts.proofs.ReadChecks.{ReadPassed, read-of-answer, answer-of-read}
 use Rattle.texts.proofs.ReadLeft.{part-back, read-parts}
 use Rattle.texts.proofs.WriteCall.{written}
