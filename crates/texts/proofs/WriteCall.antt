@@ -1,5 +1,5 @@
 -- The size and write calls: each answer, and what is left of the buffer. Assumes nothing.
---   size-refused, size-passed, size-done   size
+--   size-refused, size-passed, size-done   size;   size-covers   the text is no longer than size's answer
 --   written                                what write leaves where it is not refused
 --   write-refused, write-short, write-done   write
 --   rows-fit, rows-room, records-fit, records-room   what the two writing loops need
@@ -51,6 +51,15 @@ module _ (t : Table) (v : Verdict) (found : verdictModel v ≡ judged (sizeCheck
   pub size-done : v ≡ Passed → done (sizeBound t) ≡ sizeOf t
   unfolding sizeOf
   size-done e = sym (answer-of-table t (sizeBound t) (size-passed e))
+
+-- the text is no longer than what size answers
+pub size-covers : (t : Table) (a : Answer ℕ) → a ≡ sizeOf t → (n : ℕ) → a ≡ done n → length (textOf t) ≤ n
+unfolding sizeOf
+size-covers t a is n e =
+    let P = table-of-answer t (sizeBound t) n (sym is ∙ e) in
+    let same : done (sizeBound t) ≡ done n = sym (answer-of-table t (sizeBound t) P) ∙ sym is ∙ e in
+    let m : sizeBound t ≡ n = cc in
+    omega (arith, text-size t P)
 
 -- ---- write, by the answer a of size
 

@@ -1,7 +1,9 @@
 // Numbers that 01 sets.
 
-pub(crate) const ROW_BYTES: usize = 44;
+// Size's bytes a row, and a record.
+pub const ROW_BYTES: usize = 44;
 
-pub(crate) const RECORD_BYTES: usize = 24;
+pub const RECORD_BYTES: usize = 24;
 
-pub(crate) const TEXT_LIMIT: usize = 40000;
+// The most bytes of a text that read takes.
+pub const TEXT_LIMIT: usize = 40000;
