@@ -1,6 +1,8 @@
 -- What read leaves where it is not refused: the slices hold the table, and their first parts are that table. Assumes nothing.
---   Room c slices   the slices have the rows and records that c counts;   read-room   those that read leaves
+--   part-back       the first part of a slice that was filled is what it was filled with
+--   Room c slices   the slices have the rows and records that c counts
 --   read-parts      the first parts of the slices are the table that was read
+--   read-answered, read-room   by read's answer: its counts, and the slices hold them
 use mathlib.Core.Path.{_≡_, refl, sym, ap, _∙_, subst, subst₂}
 use mathlib.Core.List.{List, _++_, map}
 use Prim.Native.Nat.{ℕ, _*_, _≤_}

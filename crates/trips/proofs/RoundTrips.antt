@@ -1,7 +1,7 @@
 -- Demand 2 on texts: what was written reads back as that table, and what was read is written as those bytes. Assumes nothing.
 --   write-of-answer   what a write that is not refused says of the table and the buffer
---   table-back    the text that was written is read as that table, the rest of the slices untouched
---   bytes-back    the table that was read is written as those bytes, the rest of the buffer untouched
+--   table-back        the text that was written is read as that table, the rest of the slices untouched
+--   bytes-back        the table that was read is written as those bytes, the rest of the buffer untouched
 use mathlib.Core.Path.{_≡_, refl, sym, ap, _∙_}
 use mathlib.Core.List.{List, [], _∷_, _++_}
 use Prim.Native.Nat.{ℕ, _≤_}
@@ -58,7 +58,7 @@ text-read t lent P R =
       words-hold = omega (arith, ap (λ (x : Table). length (x .words)) same, R .words-hold);
     }
 
-pub text-back : (t lent : Table) → TablePassed t → Roomy t lent → readOf (textOf t) lent ≡ record { answer = done (countsOf t); slices = filledWith t lent }
+text-back : (t lent : Table) → TablePassed t → Roomy t lent → readOf (textOf t) lent ≡ record { answer = done (countsOf t); slices = filledWith t lent }
 text-back t lent P R =
     answer-of-read (textOf t) lent (text-read t lent P R) ∙ ap (λ (x : Table). record { answer = done (countsOf x); slices = filledWith x lent }) (text-table t P)
 
