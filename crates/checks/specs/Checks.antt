@@ -3,21 +3,21 @@
 --   noRows, tooManyRows        the conditions of 1;   locksDiffer, masksDiffer, valuesDiffer   of 2
 --   wordsLeftOver, tooManyRecords, firstAfterLast, lastPastEnd   of 3
 --   widthZero, widthOver, lockOver   of 4;            planeOver, planesMeet   of 5
---   rowOutside t i             of count's 7;          bufferShort t room   of 14;   sizeBound t   the bytes that size answers
+--   rowOutside t i             of count's 7
 --   rowShapeFaults t           1 and 2;      wordFaults t      3 without a stretch;   stretchFaults t first last   3 for a stretch
 --   rowFaults w l m v          4 and 5 of a row;  rowFaultsAt t i   of row i;   rowChecks t   of all rows
 --   widthFaults w, vectorFaults w m v   their parts: a width, and a vector of that width
 --   recordChecks t             6 to 9 of all records;          openChecks t  6 to 10 of all records
---   runChecks, sizeChecks, writeChecks, countChecks   what run, size, write and count refuse, in order
+--   runChecks, sizeChecks, countChecks   what run, size and count refuse, in order
 use mathlib.Core.Bool.{Bool, not}
 use mathlib.Core.List.{List, [], _∷_, _++_}
-use Prim.Native.Nat.{ℕ, _+_, _*_, _%_, _^_}
+use Prim.Native.Nat.{ℕ, _%_, _^_}
 use lib.Dec.{leb, ltb, eqb}
 use lib.ListN.{length, getD}
 use lib.Bits.{bitAnd}
 use Rattle.operations.specs.Limits.{recordWords}
 use Rattle.operations.specs.Record.{Fault, fault, widthAt, recordFaults, lockFault}
-use Rattle.checks.specs.Limits.{widthLimit, rowLimit, recordLimit, rowBytes, recordBytes}
+use Rattle.checks.specs.Limits.{widthLimit, rowLimit, recordLimit}
 use Rattle.checks.specs.Check.{Check, placed, rising}
 use Rattle.checks.specs.Table.{Table, recordCount, recordOf}
 
@@ -73,16 +73,10 @@ planeOver w n = leb (2 ^ w) n
 abbrev pub planesMeet : ℕ → ℕ → Bool
 planesMeet m v = not (eqb (bitAnd m v) 0)
 
--- ---- 7 of count: the row named outside the table;  14: output buffer shorter than size
+-- ---- 7 of count: the row named outside the table
 
 abbrev pub rowOutside : Table → ℕ → Bool
 rowOutside t i = leb (length (t .widths)) i
-
-abbrev pub sizeBound : Table → ℕ
-sizeBound t = rowBytes * length (t .widths) + recordBytes * recordCount t
-
-abbrev pub bufferShort : Table → ℕ → Bool
-bufferShort t room = ltb room (sizeBound t)
 
 -- ---- the lists
 
@@ -122,9 +116,6 @@ runChecks t first last = placed 0 (rowShapeFaults t) ++ (placed 0 (wordFaults t)
 
 unfoldable pub sizeChecks : Table → List Check
 sizeChecks t = placed 0 (rowShapeFaults t) ++ (placed 0 (wordFaults t) ++ (rowChecks t ++ recordChecks t))
-
-unfoldable pub writeChecks : Table → ℕ → List Check
-writeChecks t room = sizeChecks t ++ placed 0 (fault (bufferShort t room) 14 ∷ [])
 
 unfoldable pub countChecks : Table → ℕ → List Check
 countChecks t i = placed 0 (rowShapeFaults t) ++ (rowChecks t ++ placed i (fault (rowOutside t i) 7 ∷ []))

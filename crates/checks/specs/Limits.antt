@@ -1,7 +1,6 @@
--- Numbers that 01, "Vectors and rows", "Records" and "Calls" set.
+-- Numbers that 01, "Vectors and rows" and "Records" set.
 --   widthLimit    the greatest width
 --   rowLimit      the most rows of a table;   recordLimit   the most records
---   rowBytes      size's bytes a row;         recordBytes   size's bytes a record
 use Prim.Native.Nat.{ℕ}
 
 abbrev pub widthLimit : ℕ
@@ -12,9 +11,3 @@ rowLimit = 256
 
 abbrev pub recordLimit : ℕ
 recordLimit = 1024
-
-abbrev pub rowBytes : ℕ
-rowBytes = 44
-
-abbrev pub recordBytes : ℕ
-recordBytes = 24

@@ -14,9 +14,9 @@ use Rattle.tables.proofs.Demand3.{ran-done, accepted-of-run, accepted-with, sta
 use Rattle.tables.proofs.RunLaws.{never-done}
 use Rattle.grammar.specs.Print.{textOf}
 use Rattle.grammar.specs.Lists.{filled}
-use Rattle.texts.specs.Calls.{Written, writeOf, Counts, ReadBack, readOf}
-use Rattle.texts.specs.Trips.{firstOf}
-use Rattle.texts.proofs.RoundTrips.{written, read-parts}
+use Rattle.texts.specs.Calls.{Written, writeOf, Counts, ReadBack, readOf, firstOf}
+use Rattle.texts.proofs.ReadLeft.{read-parts}
+use Rattle.texts.proofs.WriteCall.{written}
 use Rattle.evaluation.specs.Evaluate.{Printed, outputRoom, refusedLine, printedRun, printedTable, printedRead, evaluateIn}
 
 module _ (t : Table) where

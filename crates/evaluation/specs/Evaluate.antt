@@ -11,10 +11,11 @@ use mathlib.Core.List.{List, [], _∷_, _++_}
 use Prim.Native.Nat.{ℕ, _+_, _*_}
 use lib.ListN.{length, replicate}
 use Rattle.operations.specs.Limits.{recordWords}
-use Rattle.checks.specs.Limits.{rowLimit, recordLimit, rowBytes, recordBytes}
+use Rattle.checks.specs.Limits.{rowLimit, recordLimit}
 use Rattle.checks.specs.Check.{Answer, done, refused}
 use Rattle.checks.specs.Table.{Table, withRows, recordCount}
 use Rattle.tables.specs.Run.{Ran, runOf}
+use Rattle.grammar.specs.Limits.{rowBytes, recordBytes}
 use Rattle.grammar.specs.Lists.{filled}
 use Rattle.operations.specs.Kind.{bytes}
 use Rattle.grammar.specs.Words.{lf, tab}

@@ -12,11 +12,10 @@ use lib.ListN.{length, drop, length-append}
 use Rattle.operations.specs.Kind.{Use, asRow, asNumber, unused, Kind}
 use Rattle.operations.specs.Kinds.{kinds}
 use Rattle.operations.specs.Record.{kindWord, targetWord, firstWord, secondWord, parameterWord, kindIn}
-use Rattle.checks.specs.Limits.{rowBytes, recordBytes}
 use Rattle.checks.specs.Table.{Table, recordCount, recordOf}
-use Rattle.checks.specs.Checks.{sizeBound}
 use Rattle.checks.specs.Accepted.{TablePassed}
 use Rattle.bits.specs.Counted.{listed}
+use Rattle.grammar.specs.Limits.{rowBytes, recordBytes}
 use Rattle.grammar.specs.Lists.{allOf}
 use Rattle.grammar.specs.Words.{lf, tab, rowWord, opWord, lockWord}
 use Rattle.grammar.specs.Print.{decimal, lettersOf, LineRow, Line, rowLine, recordLine, fieldsOf, joined, lineText, linesText, lineRow, rowLines, recordLines, tableLines, textOf}
@@ -107,7 +106,7 @@ lines-length c f i zero h = omega arith
 lines-length c f i (suc n) h =
     omega (arith, length-append (lineText (f i)) (linesText (listed f (suc i) n)), h i (omega arith), lines-length c f (suc i) n (λ j l. h j (omega arith)), mul-suc c n)
 
-pub text-size : (t : Table) → TablePassed t → length (textOf t) ≤ sizeBound t
+pub text-size : (t : Table) → TablePassed t → length (textOf t) ≤ rowBytes * length (t .widths) + recordBytes * recordCount t
 unfolding textOf tableLines
 text-size t P =
     omega (

@@ -1,6 +1,7 @@
--- Numbers that 01, "Text" and "Who can cause a refusal" set.
+-- Numbers that 01, "Calls", "Text" and "Who can cause a refusal" set.
 --   numberLimit   the greatest number of a record line
 --   textLimit     the most bytes of a text that read takes
+--   rowBytes      size's bytes a row;   recordBytes   size's bytes a record
 use Prim.Native.Nat.{ℕ}
 
 abbrev pub numberLimit : ℕ
@@ -8,3 +9,9 @@ numberLimit = 999
 
 abbrev pub textLimit : ℕ
 textLimit = 40000
+
+abbrev pub rowBytes : ℕ
+rowBytes = 44
+
+abbrev pub recordBytes : ℕ
+recordBytes = 24

@@ -1,11 +1,14 @@
 // The library for C, C++ and Rust programs: the public calls, exported (01, "Calls").
 ghost use mathlib.Core.Path.{_≡_};
 ghost use mathlib.Core.List.{[]};
+ghost use Prim.Native.Nat.{_≤_};
+ghost use lib.ListN.{length};
 ghost use Rattle.checks.specs.Model.{lent};
 ghost use Rattle.tables.specs.Demand.{Demand3};
 ghost use Rattle.tables.specs.Model.{held};
 ghost use Rattle.tables.specs.Run.{runOf, countOf};
 ghost use Rattle.grammar.specs.Cut.{fieldEnds};
+ghost use Rattle.grammar.specs.Print.{textOf};
 ghost use Rattle.texts.specs.Calls.{sizeOf, writeOf, readOf};
 ghost use Rattle.rifflerleek.specs.Host.{hostResult, hostRefusal, numberAnswer, countAnswer, endsAnswer, outcome, hostRan, hostWritten, hostRead};
 use checks::Refusal;
@@ -100,7 +103,12 @@ pub extern "C" fn rifflerleek_size(
     value: &[u32],
     words: &[u32],
 ) -> Answer
-    ensures { λ r. ⌜ r ≡ numberAnswer (sizeOf (lent (now (width .entry)) (now (lock .entry)) (now (mask .entry)) (now (value .entry)) (now (words .entry)))) ⌝ }
+    ensures answer { λ r.
+        let table = lent (now (width .entry)) (now (lock .entry)) (now (mask .entry)) (now (value .entry)) (now (words .entry)) in
+        ⌜ r ≡ numberAnswer (sizeOf table) ⌝ }
+    ensures bound { λ r.
+        let table = lent (now (width .entry)) (now (lock .entry)) (now (mask .entry)) (now (value .entry)) (now (words .entry)) in
+        ⌜ (r .refusal ≡ 0 → length (textOf table) ≤ r .first) ⌝ }
 {
     match texts::size(width, lock, mask, value, words) {
         BytesAnswer::Bytes(n) => done(n, 0),

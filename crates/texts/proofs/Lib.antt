@@ -1,7 +1,6 @@
 -- The laws and proofs of `texts`.
 pub mod ReadChecks
-pub mod RoundTrips
-pub mod Worked
+pub mod ReadLeft
 pub mod Surveys
 pub mod FillRows
 pub mod RowBytes
@@ -9,4 +8,3 @@ pub mod FillRecords
 pub mod ReadCall
 pub mod PrintLines
 pub mod WriteCall
-pub mod TripCalls

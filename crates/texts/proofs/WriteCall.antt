@@ -1,5 +1,6 @@
 -- The size and write calls: each answer, and what is left of the buffer. Assumes nothing.
---   size-refused, size-passed, size-done   size
+--   size-refused, size-passed, size-done   size;   size-covers   the text is no longer than size's answer
+--   written                                what write leaves where it is not refused
 --   write-refused, write-short, write-done   write
 --   rows-fit, rows-room, records-fit, records-room   what the two writing loops need
 use mathlib.Core.Path.{_≡_, sym, ap, ap₂, _∙_}
@@ -8,26 +9,26 @@ use mathlib.Core.List.{List, [], _∷_, _++_, append-nil}
 use Prim.Native.Nat.{ℕ, _+_, _≤_, _<_}
 use native.Mathlib.Nat.{zero-add}
 use native.Mathlib.Omega.{arith}
+use lib.Arith.{le→nltb}
 use lib.ListN.{length, drop, length-append}
 use lib.Seq.{sets, sets-eq}
 use borrow.Author.Tests.{lt-ltb}
 use Rattle.operations.specs.Record.{fault}
 use Rattle.checks.specs.Check.{Answer, done, refused, verdict, placed}
 use Rattle.checks.specs.Table.{Table}
-use Rattle.checks.specs.Checks.{sizeBound, bufferShort, sizeChecks, writeChecks}
+use Rattle.checks.specs.Checks.{sizeChecks}
 use Rattle.checks.specs.Accepted.{TablePassed}
 use Rattle.checks.specs.Model.{judged, verdictModel}
 use Rattle.checks.specs.declared.Refusal.{Refusal}
 use Rattle.checks.specs.declared.Verdict.{Verdict}
 use Rattle.checks.specs.declared.Verdict.the-variants.{Passed, Refused}
-use Rattle.checks.proofs.Verdicts.{verdict-passed, verdict-refused}
+use Rattle.checks.proofs.Verdicts.{verdict-passed, verdict-refused, passed-append, done-of-passed}
 use Rattle.checks.proofs.Accepts.{passed-of-table, table-of-answer, answer-of-table}
 use Rattle.grammar.specs.Lists.{filled}
 use Rattle.grammar.specs.Print.{linesText, rowLines, recordLines, tableLines, textOf}
-use Rattle.texts.specs.Calls.{sizeOf, writtenAs, writeOf}
+use Rattle.texts.specs.Calls.{sizeBound, sizeOf, bufferShort, writeChecks, writtenAs, writeOf}
 use Rattle.grammar.proofs.WordUses.{words-length}
 use Rattle.grammar.proofs.Sizes.{lines-append, text-size}
-use Rattle.texts.proofs.RoundTrips.{written}
 use Rattle.texts.specs.Model.{bytesModel}
 use Rattle.texts.specs.declared.BytesAnswer.{BytesAnswer}
 use Rattle.texts.specs.declared.BytesAnswer.the-variants.{Bytes, Refused as NotBytes}
@@ -51,7 +52,23 @@ module _ (t : Table) (v : Verdict) (found : verdictModel v ≡ judged (sizeCheck
   unfolding sizeOf
   size-done e = sym (answer-of-table t (sizeBound t) (size-passed e))
 
+-- the text is no longer than what size answers
+pub size-covers : (t : Table) (a : Answer ℕ) → a ≡ sizeOf t → (n : ℕ) → a ≡ done n → length (textOf t) ≤ n
+unfolding sizeOf
+size-covers t a is n e =
+    let P = table-of-answer t (sizeBound t) n (sym is ∙ e) in
+    let same : done (sizeBound t) ≡ done n = sym (answer-of-table t (sizeBound t) P) ∙ sym is ∙ e in
+    let m : sizeBound t ≡ n = cc in
+    omega (arith, text-size t P)
+
 -- ---- write, by the answer a of size
+
+pub written : (t : Table) (out : List ℕ) → TablePassed t → sizeBound t ≤ length out → writeOf t out ≡ record { answer = done (length (textOf t)); buffer = filled (textOf t) out }
+unfolding writeOf writeChecks
+written t out P h =
+    ap (λ (a : Answer ℕ). writtenAs a t out)
+    (done-of-passed (writeChecks t (length out)) (length (textOf t))
+    (passed-append (sizeChecks t) (placed 0 (fault (bufferShort t (length out)) 14 ∷ [])) (passed-of-table t P) (le→nltb (length out) (sizeBound t) h, tt)))
 
 module _ (t : Table) (out : List ℕ) (a : BytesAnswer) (found : bytesModel a ≡ sizeOf t) where
   pub write-refused : (r : Refusal) → a ≡ NotBytes r → record { answer = refused (r .number) (r .place); buffer = out } ≡ writeOf t out

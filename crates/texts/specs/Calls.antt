@@ -1,5 +1,6 @@
 -- What size, write and read answer and leave (01, "Calls" and "Who can cause a refusal").
---   sizeOf t                     size's answer
+--   sizeBound t                  the bytes that size answers;   sizeOf t   size's answer
+--   bufferShort t room           the condition of 14;   writeChecks t room   what write refuses, in order
 --   Written, writeOf t out       write's answer, and the buffer that it leaves;   writtenAs   these of a verdict of write's checks
 --   lentChecks, lengthChecks, lineChecks, roomChecks   2, 11, 12 and 13 of read
 --   textOver, rowsExceed, wordsExceed   the conditions of 11 and 13;   badLine text   the first bad line, from 1, or 0
@@ -7,27 +8,40 @@
 --   Counts, countsOf t           how many rows and records
 --   ReadBack, readOf text lent   read's answer, and the five slices that it leaves;   readAs   these of a verdict of read's checks
 --   filledWith new lent          the slices with the table new at their start
+--   firstOf c slices             the first rows and records of the slices, as many as c counts
 use mathlib.Core.Bool.{Bool, false, not}
 use mathlib.Core.List.{List, [], _∷_, _++_}
-use Prim.Native.Nat.{ℕ}
+use Prim.Native.Nat.{ℕ, _+_, _*_}
 use lib.Dec.{ltb, eqb}
-use lib.ListN.{length}
+use lib.ListN.{length, take}
+use Rattle.operations.specs.Limits.{recordWords}
 use Rattle.operations.specs.Record.{fault}
 use Rattle.checks.specs.Check.{Answer, done, refused, Check, verdict, placed}
 use Rattle.checks.specs.Table.{Table, recordCount}
-use Rattle.checks.specs.Checks.{sizeBound, sizeChecks, writeChecks, locksDiffer, masksDiffer, valuesDiffer}
-use Rattle.grammar.specs.Limits.{textLimit}
+use Rattle.checks.specs.Checks.{sizeChecks, locksDiffer, masksDiffer, valuesDiffer}
+use Rattle.grammar.specs.Limits.{textLimit, rowBytes, recordBytes}
 use Rattle.grammar.specs.Lists.{filled}
 use Rattle.grammar.specs.Print.{textOf}
 use Rattle.grammar.specs.Lines.{linesIn, firstBad, tableRead}
 
 -- "44 × rows + 24 × records, a number of bytes the text doesn't exceed"
+abbrev pub sizeBound : Table → ℕ
+sizeBound t = rowBytes * length (t .widths) + recordBytes * recordCount t
+
 unfoldable pub sizeOf : Table → Answer ℕ
 sizeOf t = verdict (sizeChecks t) (sizeBound t)
 
 pub record Written : Type 0 where
   pub answer : Answer ℕ
   pub buffer : List ℕ
+
+-- 14: output buffer shorter than size
+abbrev pub bufferShort : Table → ℕ → Bool
+bufferShort t room = ltb room (sizeBound t)
+
+-- "write 1 to 9 then 14"
+unfoldable pub writeChecks : Table → ℕ → List Check
+writeChecks t room = sizeChecks t ++ placed 0 (fault (bufferShort t room) 14 ∷ [])
 
 -- "Write answers the text's byte count and leaves the buffer's rest."
 abbrev pub writtenAs : Answer ℕ → Table → List ℕ → Written
@@ -99,3 +113,14 @@ readAs (refused number place) new lent = record { answer = refused number place;
 
 unfoldable pub readOf : List ℕ → Table → ReadBack
 readOf text lent = readAs (verdict (readChecks text lent) (countsOf (tableRead text))) (tableRead text) lent
+
+-- where the table is that read left, by the counts that it answers
+abbrev pub firstOf : Counts → Table → Table
+firstOf c slices =
+    record {
+      widths = take (c .rows) (slices .widths);
+      locks = take (c .rows) (slices .locks);
+      masks = take (c .rows) (slices .masks);
+      values = take (c .rows) (slices .values);
+      words = take (recordWords * c .records) (slices .words);
+    }

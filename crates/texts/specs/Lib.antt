@@ -1,6 +1,5 @@
 -- The definitions of `texts`.
 pub mod Calls
-pub mod Trips
 pub mod Model
 pub mod Fill
 pub mod Print

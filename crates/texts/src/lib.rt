@@ -1,14 +1,23 @@
 // The text of a table: size, write, read and field (01, "Calls" and "Text").
 ghost use mathlib.Core.Path.{_≡_};
+ghost use Prim.Native.Nat.{ℕ, _≤_};
+ghost use lib.ListN.{length};
 ghost use denote.Ref.{ptr};
+ghost use Rattle.checks.specs.Check.{done};
 ghost use Rattle.checks.specs.Model.{lent};
 ghost use Rattle.grammar.specs.Cut.{fieldOf};
+ghost use Rattle.grammar.specs.Print.{textOf};
 ghost use Rattle.texts.specs.Calls.{sizeOf, writeOf, readOf};
 ghost use Rattle.lines.specs.Model.{lies};
 ghost use Rattle.texts.specs.Model.{bytesModel, writeLeft, readLeft};
 use checks::Refusal;
 use checks::Verdict;
 use checks::check_table;
+use checks::refusals::BUFFER;
+use checks::refusals::LENGTHS;
+use checks::refusals::LINE;
+use checks::refusals::LONG;
+use checks::refusals::ROOM;
 use fill::fill_records;
 use fill::fill_rows;
 use fill::survey;
@@ -25,7 +34,6 @@ use print::put_rows;
 mod fill; // fill.rt: the two passes of read
 pub mod limits; // limits.rt: numbers that 01 sets
 mod print; // print.rt: the lines of a table written
-mod trips; // trips.rt: the round trips over the calls
 
 // A number of bytes.
 pub enum BytesAnswer {
@@ -35,7 +43,12 @@ pub enum BytesAnswer {
 
 // A number of bytes that the text of a table does not exceed.
 pub fn size(width: &[u8], lock: &[u8], mask: &[u32], value: &[u32], words: &[u32]) -> BytesAnswer
-    ensures { λ r. ⌜ bytesModel r ≡ sizeOf (lent (now (width .entry)) (now (lock .entry)) (now (mask .entry)) (now (value .entry)) (now (words .entry))) ⌝ }
+    ensures answer { λ r.
+        let table = lent (now (width .entry)) (now (lock .entry)) (now (mask .entry)) (now (value .entry)) (now (words .entry)) in
+        ⌜ bytesModel r ≡ sizeOf table ⌝ }
+    ensures bound { λ r.
+        let table = lent (now (width .entry)) (now (lock .entry)) (now (mask .entry)) (now (value .entry)) (now (words .entry)) in
+        ⌜ ((n : ℕ) → bytesModel r ≡ done n → length (textOf table) ≤ n) ⌝ }
 {
     let found = check_table(width, lock, mask, value, words);
     match found {
@@ -55,7 +68,9 @@ pub fn write(
     words: &[u32],
     out: &mut [u8],
 ) -> BytesAnswer
-    ensures { λ r. ⌜ writeLeft r (now (out .exit)) ≡ writeOf (lent (now (width .entry)) (now (lock .entry)) (now (mask .entry)) (now (value .entry)) (now (words .entry))) (now (out .entry)) ⌝ }
+    ensures { λ r.
+        let table = lent (now (width .entry)) (now (lock .entry)) (now (mask .entry)) (now (value .entry)) (now (words .entry)) in
+        ⌜ writeLeft r (now (out .exit)) ≡ writeOf table (now (out .entry)) ⌝ }
 {
     let found = size(width, lock, mask, value, words);
     match found {
@@ -63,7 +78,7 @@ pub fn write(
         BytesAnswer::Bytes(n) => {
             if out.len() < n {
                 return BytesAnswer::Refused(Refusal {
-                    number: 14,
+                    number: BUFFER,
                     place: 0,
                 });
             }
@@ -89,30 +104,33 @@ pub fn read(
     value: &mut [u32],
     words: &mut [u32],
 ) -> ReadAnswer
-    ensures { λ r. ⌜ readLeft r (lent (now (width .exit)) (now (lock .exit)) (now (mask .exit)) (now (value .exit)) (now (words .exit))) ≡ readOf (now (text .entry)) (lent (now (width .entry)) (now (lock .entry)) (now (mask .entry)) (now (value .entry)) (now (words .entry))) ⌝ }
+    ensures { λ r.
+        let slices = lent (now (width .entry)) (now (lock .entry)) (now (mask .entry)) (now (value .entry)) (now (words .entry)) in
+        let left = lent (now (width .exit)) (now (lock .exit)) (now (mask .exit)) (now (value .exit)) (now (words .exit)) in
+        ⌜ readLeft r left ≡ readOf (now (text .entry)) slices ⌝ }
 {
     let n = width.len();
     if lock.len() != n {
         return ReadAnswer::Refused(Refusal {
-            number: 2,
+            number: LENGTHS,
             place: 0,
         });
     }
     if mask.len() != n {
         return ReadAnswer::Refused(Refusal {
-            number: 2,
+            number: LENGTHS,
             place: 0,
         });
     }
     if value.len() != n {
         return ReadAnswer::Refused(Refusal {
-            number: 2,
+            number: LENGTHS,
             place: 0,
         });
     }
     if TEXT_LIMIT < text.len() {
         return ReadAnswer::Refused(Refusal {
-            number: 11,
+            number: LONG,
             place: 0,
         });
     }
@@ -122,19 +140,19 @@ pub fn read(
     let records = s.records;
     if bad != 0 {
         return ReadAnswer::Refused(Refusal {
-            number: 12,
+            number: LINE,
             place: bad,
         });
     }
     if n < rows {
         return ReadAnswer::Refused(Refusal {
-            number: 13,
+            number: ROOM,
             place: 0,
         });
     }
     if words.len() < RECORD_WORDS * records {
         return ReadAnswer::Refused(Refusal {
-            number: 13,
+            number: ROOM,
             place: 0,
         });
     }

@@ -7,7 +7,7 @@ use Rattle.texts.specs.Calls.{readOf}
 use Rattle.texts.specs.Model.{readLeft}
 use Rattle.texts.specs.declared.ReadAnswer.{ReadAnswer}
 use Rattle.texts.specs.declared.ReadAnswer.the-variants.{Read}
-use Rattle.texts.proofs.TripCalls.{Room, read-room}
+use Rattle.texts.proofs.ReadLeft.{Room, read-room}
 use Rattle.evaluation.proofs.Printed.{printed-as, evaluated-refused, evaluated-read}
 use borrow.Author.Needs.{needs}
 use Rattle.evaluation.proofs.evaluate_in.Statement.{statement}

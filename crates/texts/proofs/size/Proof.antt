@@ -1,7 +1,7 @@
 -- `texts::size`, by the verdict of the checks. Assumes nothing.
 use native.Mathlib.Omega.{arith}
 use Rattle.checks.specs.Model.{lent}
-use Rattle.texts.proofs.WriteCall.{size-refused, size-passed, size-done}
+use Rattle.texts.proofs.WriteCall.{size-refused, size-passed, size-done, size-covers}
 use borrow.Author.Needs.{needs}
 use Rattle.texts.proofs.size.Statement.{statement}
 use Rattle.texts.proofs.size.Tie as tie
@@ -27,13 +27,15 @@ returns : tie.Need-returns
 returns c =
     let s = c .before .before .before .before .before .before .before .before .before in
     let t = lent (s .args .width .now) (s .args .lock .now) (s .args .mask .now) (s .args .value .now) (s .args .words .now) in
-    size-refused t (c .before .before .before .check-table .result) (c .before .before .before .check-table .ensures) _ (c .before .found .given .1)
+    let is = size-refused t (c .before .before .before .check-table .result) (c .before .before .before .check-table .ensures) _ (c .before .found .given .1) in
+    (is, size-covers t _ is)
 
 returns-2 : tie.Need-returns-2
 returns-2 c =
     let s = c .before .before .before .before .before .before .before .before in
     let t = lent (s .args .width .now) (s .args .lock .now) (s .args .mask .now) (s .args .value .now) (s .args .words .now) in
-    size-done t (c .before .before .check-table .result) (c .before .before .check-table .ensures) (c .enum-told .given .1)
+    let is = size-done t (c .before .before .check-table .result) (c .before .before .check-table .ensures) (c .enum-told .given .1) in
+    (is, size-covers t _ is)
 
 pub size-spec : {M : Type 1} → statement M
 size-spec =

@@ -1,17 +1,15 @@
 -- The round trips through the text (demand 2), as statements about what the calls leave.
 --   Roomy t lent                the lent slices are long enough for the table t
 --   TableBack t out lent got    got is what read leaves of the slices lent, on the text that write put into out: that table, the rest untouched
---   firstOf c t                 the first rows and records of slices, as many as c counts
 --   BytesBack text lent out got got is what write leaves of out, on the table that read put into the slices lent: those bytes, the rest untouched
 use mathlib.Core.Path.{_≡_}
 use mathlib.Core.List.{List}
-use Prim.Native.Nat.{ℕ, _*_, _≤_}
-use lib.ListN.{length, take}
-use Rattle.operations.specs.Limits.{recordWords}
+use Prim.Native.Nat.{ℕ, _≤_}
+use lib.ListN.{length}
 use Rattle.checks.specs.Check.{done}
 use Rattle.checks.specs.Table.{Table}
 use Rattle.grammar.specs.Lists.{filled}
-use Rattle.texts.specs.Calls.{Written, writeOf, Counts, countsOf, ReadBack, filledWith, readOf}
+use Rattle.texts.specs.Calls.{Written, writeOf, Counts, countsOf, ReadBack, filledWith, readOf, firstOf}
 
 pub record Roomy (t lent : Table) : Type 0 where
   pub locks-same : length (lent .locks) ≡ length (lent .widths)
@@ -23,16 +21,6 @@ pub record Roomy (t lent : Table) : Type 0 where
 -- a table that is written, and slices long enough
 abbrev pub TableBack : Table → List ℕ → Table → ReadBack → Type 0
 TableBack t out lent got = (n : ℕ) → writeOf t out .answer ≡ done n → Roomy t lent → got ≡ record { answer = done (countsOf t); slices = filledWith t lent }
-
-abbrev pub firstOf : Counts → Table → Table
-firstOf c t =
-    record {
-      widths = take (c .rows) (t .widths);
-      locks = take (c .rows) (t .locks);
-      masks = take (c .rows) (t .masks);
-      values = take (c .rows) (t .values);
-      words = take (recordWords * c .records) (t .words);
-    }
 
 -- a text that is read, and whose table is written
 abbrev pub BytesBack : List ℕ → Table → List ℕ → Written → Type 0

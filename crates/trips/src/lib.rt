@@ -1,15 +1,15 @@
 // The round trips through the text over the calls themselves (demand 2): each contract is the round trip.
 ghost use Rattle.checks.specs.Model.{lent};
-ghost use Rattle.texts.specs.Trips.{TableBack, BytesBack};
+ghost use Rattle.trips.specs.Trips.{TableBack, BytesBack};
 ghost use Rattle.texts.specs.Model.{writeLeft, readLeft};
-use crate::BytesAnswer;
-use crate::ReadAnswer;
-use crate::read;
-use crate::write;
 use operations::RECORD_WORDS;
+use texts::BytesAnswer;
+use texts::ReadAnswer;
+use texts::read;
+use texts::write;
 
 // A table that is written into `out` is read back from there into other slices.
-fn write_then_read(
+pub fn write_then_read(
     width: &[u8],
     lock: &[u8],
     mask: &[u32],
@@ -22,7 +22,11 @@ fn write_then_read(
     values: &mut [u32],
     records: &mut [u32],
 ) -> ReadAnswer
-    ensures { λ r. ⌜ TableBack (lent (now (width .entry)) (now (lock .entry)) (now (mask .entry)) (now (value .entry)) (now (words .entry))) (now (out .entry)) (lent (now (widths .entry)) (now (locks .entry)) (now (masks .entry)) (now (values .entry)) (now (records .entry))) (readLeft r (lent (now (widths .exit)) (now (locks .exit)) (now (masks .exit)) (now (values .exit)) (now (records .exit)))) ⌝ }
+    ensures { λ r.
+        let table = lent (now (width .entry)) (now (lock .entry)) (now (mask .entry)) (now (value .entry)) (now (words .entry)) in
+        let slices = lent (now (widths .entry)) (now (locks .entry)) (now (masks .entry)) (now (values .entry)) (now (records .entry)) in
+        let left = lent (now (widths .exit)) (now (locks .exit)) (now (masks .exit)) (now (values .exit)) (now (records .exit)) in
+        ⌜ TableBack table (now (out .entry)) slices (readLeft r left) ⌝ }
 {
     let written = write(width, lock, mask, value, words, out);
     match written {
@@ -32,7 +36,7 @@ fn write_then_read(
 }
 
 // A text that is read into the slices is written back from there into `out`.
-fn read_then_write(
+pub fn read_then_write(
     text: &[u8],
     width: &mut [u8],
     lock: &mut [u8],
@@ -41,7 +45,9 @@ fn read_then_write(
     words: &mut [u32],
     out: &mut [u8],
 ) -> BytesAnswer
-    ensures { λ r. ⌜ BytesBack (now (text .entry)) (lent (now (width .entry)) (now (lock .entry)) (now (mask .entry)) (now (value .entry)) (now (words .entry))) (now (out .entry)) (writeLeft r (now (out .exit))) ⌝ }
+    ensures { λ r.
+        let slices = lent (now (width .entry)) (now (lock .entry)) (now (mask .entry)) (now (value .entry)) (now (words .entry)) in
+        ⌜ BytesBack (now (text .entry)) slices (now (out .entry)) (writeLeft r (now (out .exit))) ⌝ }
 {
     let found = read(text, width, lock, mask, value, words);
     match found {

@@ -1,0 +1,4 @@
+-- The laws and proofs of `trips`.
+pub mod RoundTrips
+pub mod TripCalls
+pub mod Worked

@@ -1,0 +1,2 @@
+-- The definitions of `trips`.
+pub mod Trips
