@@ -108,7 +108,7 @@ pub extern "C" fn rifflerleek_size(
         ⌜ r ≡ numberAnswer (sizeOf table) ⌝ }
     ensures bound { λ r.
         let table = lent (now (width .entry)) (now (lock .entry)) (now (mask .entry)) (now (value .entry)) (now (words .entry)) in
-        ⌜ (r .refusal ≡ 0 → length (textOf table) ≤ r .first) ⌝ }
+        ⌜ (r .refusal ≡ 0 → length (textOf table) ≤ r .result) ⌝ }
 {
     match texts::size(width, lock, mask, value, words) {
         BytesAnswer::Bytes(n) => done(n, 0),
