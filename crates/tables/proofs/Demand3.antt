@@ -14,7 +14,7 @@ use Rattle.tables.specs.Step.{after}
 use Rattle.tables.specs.Run.{effectsAt, programOf, Ran, ranAs, runOf, pointRows, plainRun}
 use Rattle.tables.specs.Demand.{StateFits, CoversState, InsideState, After, Demand3}
 use Rattle.tables.proofs.Fits.{FitProgram, effects-fit}
-use Rattle.tables.proofs.Points.{Stretch, stretch}
+use Rattle.tables.proofs.Points.{Stretch, stretch, after-fits}
 
 -- ---- run and acceptance
 
@@ -76,6 +76,9 @@ module _ (t : Table) (first last : ℕ) (A : Accepted t first last) where
   pub at-point : (rows : State) → StateFits (t .widths) rows → (s : ℕ) → first ≤ s → s ≤ last → pointRows (withRows t rows) first s ≡ after (programOf t) first (s - first) rows
   at-point rows S s h l = ap (λ (r : Ran). r .rows) (ran-done (withRows t rows) first s (accepted-with t first last A rows S s h l))
 
+  formed : (s : ℕ) → first ≤ s → s ≤ last → StateFits (t .widths) (pointRows t first s)
+  formed s h l = subst (StateFits (t .widths)) (sym (at-point (startOf t) fits s h l)) (after-fits (programOf t) first (startOf t) fits (s - first))
+
   one-effect : (s : ℕ) → (e : Effect) × (effectsAt t s ≡ e ∷ []) × (e .target ≡ targetWord (recordOf t s))
   unfolding effectsOf effectOf
   one-effect s = (effectOf (t .widths) (recordOf t s), refl, refl)
@@ -96,6 +99,7 @@ module _ (t : Table) (first last : ℕ) (A : Accepted t first last) where
         end = refl;
         points = answers (startOf t) fits;
         start = at-point (startOf t) fits first (omega arith) (A .ordered) ∙ ap (λ (n : ℕ). after (programOf t) first n (startOf t)) (sub-self first);
+        formed = λ s h l. formed s h l .formed;
         one-target = λ s h l. one-effect s;
         best-results = best-results;
         plain-runs = λ ns C s h l.
