@@ -47,6 +47,7 @@ pub record Demand3 (t : Table) (first last : ℕ) (rows : State) : Type 0 where
   pub formed : (s : ℕ) → first ≤ s → s ≤ last → (i : ℕ) → i < length (t .widths) → WellFormed (rowAt (t .widths) (pointRows t first s) i)
   pub one-target : (s : ℕ) → first ≤ s → s < last → (e : Effect) × (effectsAt t s ≡ e ∷ []) × (e .target ≡ targetWord (recordOf t s))
   pub best-results : (s : ℕ) → first ≤ s → s < last → After (t .widths) (effectsAt t s) (pointRows t first s) (pointRows t first (suc s))
-  pub plain-runs : (ns : List ℕ) → CoversState (t .widths) (startOf t) ns → (s : ℕ) → first ≤ s → s ≤ last → CoversState (t .widths) (pointRows t first s) (plainRun t first s ns)
+  pub plain-runs : (ns : List ℕ) → CoversState (t .widths) (startOf t) ns → (s : ℕ) → first ≤ s → s ≤ last
+      → CoversState (t .widths) (pointRows t first s) (plainRun t first s ns)
   pub inner-runs : (inner : State) → StateFits (t .widths) inner → InsideState (t .widths) inner (startOf t) → (s : ℕ) → first ≤ s → s ≤ last
       → (runOf (withRows t inner) first s .answer ≡ done s) × InsideState (t .widths) (pointRows (withRows t inner) first s) (pointRows t first s)

@@ -4,7 +4,7 @@ use native.Mathlib.Omega.{arith}
 use Rattle.checks.specs.Accepted.{Accepted}
 use Rattle.checks.specs.Model.{lent, verdictModel}
 use Rattle.tables.proofs.StretchLaws.{part-ready, part-after}
-use Rattle.tables.proofs.RunLaws.{never-done, refused-run, accepted-run, done-run, demand3-left}
+use Rattle.tables.proofs.RunLaws.{refused-meets, accepted-run, done-meets}
 use borrow.Author.Needs.{needs}
 use Rattle.tables.proofs.run.Statement.{statement}
 use Rattle.tables.proofs.run.Tie as tie
@@ -21,7 +21,7 @@ returns : tie.Need-returns
 returns c =
     let a = c .before .before .before .before .before .before .before .before .before .before .before .args in
     let e = sym (c .before .before .before .check-run .ensures) ∙ ap verdictModel (c .before .r .given .1) in
-    (refused-run (lent (a .width .now) (a .lock .now) (a .mask .now) (a .value .now) (a .words .now)) (a .first) (a .last) _ _ e, λ z. absurd (never-done _ _ _ z))
+    refused-meets (lent (a .width .now) (a .lock .now) (a .mask .now) (a .value .now) (a .words .now)) (a .first) (a .last) _ _ e
 
 mul-start : tie.Need-mul-start
 mul-start c =
@@ -49,14 +49,15 @@ part-step-all-end c =
 
 step-all-requires : tie.Need-step-all-requires
 step-all-requires c κs =
-    let a = c .before .before .before .before .before .before .before .before .before .before .before .before .before .args in part-ready (lent (a .width .now) (a .lock .now) (a .mask .now) (a .value .now) (a .words .now)) (a .first) (a .last) (told (c .before .before .before))
+    let a = c .before .before .before .before .before .before .before .before .before .before .before .before .before .args in
+    part-ready (lent (a .width .now) (a .lock .now) (a .mask .now) (a .value .now) (a .words .now)) (a .first) (a .last) (told (c .before .before .before))
 
 returns-2 : tie.Need-returns-2
 returns-2 c =
     let a = c .before .before .before .before .before .before .before .before .before .before .before .before .before .before .before .before .before .before .args in
     let A = told (c .before .before .before .before .before .before .before .before) in
     let e = c .before .before .before .before .step-all .ensures ∙ part-after (lent (a .width .now) (a .lock .now) (a .mask .now) (a .value .now) (a .words .now)) (a .first) (a .last) A in
-    (done-run (lent (a .width .now) (a .lock .now) (a .mask .now) (a .value .now) (a .words .now)) (a .first) (a .last) A _ e, λ z. demand3-left (lent (a .width .now) (a .lock .now) (a .mask .now) (a .value .now) (a .words .now)) (a .first) (a .last) A _ e)
+    done-meets (lent (a .width .now) (a .lock .now) (a .mask .now) (a .value .now) (a .words .now)) (a .first) (a .last) A _ e
 
 pub run-spec : {M : Type 1} → statement M
 run-spec =
