@@ -41,7 +41,8 @@ pub program-fits : (t : Table) → TablePassed t → FitProgram (programOf t)
 program-fits t A i h = effects-fit (t .widths) (recordOf t i) (A .record-passed i h)
 
 -- the same table with other well-formed rows, and a stretch that ends earlier, is accepted too
-pub accepted-with : (t : Table) (first last : ℕ) → Accepted t first last → (rows : State) → StateFits (t .widths) rows → (s : ℕ) → first ≤ s → s ≤ last → Accepted (withRows t rows) first s
+pub accepted-with : (t : Table) (first last : ℕ) → Accepted t first last → (rows : State) → StateFits (t .widths) rows
+    → (s : ℕ) → first ≤ s → s ≤ last → Accepted (withRows t rows) first s
 accepted-with t first last A rows S s h l =
     record {
       table = record {
@@ -52,7 +53,9 @@ accepted-with t first last A rows S s h l =
         values-length = S .values-length;
         words-whole = A .table .words-whole;
         records-most = A .table .records-most;
-        row-passed = λ i k. let R = A .table .row-passed i k in record { width-least = R .width-least; width-most = R .width-most; lock-most = R .lock-most; formed = S .formed i k };
+        row-passed = λ i k.
+            let R = A .table .row-passed i k in
+            record { width-least = R .width-least; width-most = R .width-most; lock-most = R .lock-most; formed = S .formed i k };
         record-passed = A .table .record-passed;
       };
       ordered = h;
@@ -109,7 +112,3 @@ module _ (t : Table) (first last : ℕ) (A : Accepted t first last) where
           subst₂ (InsideState (t .widths)) (sym (at-point inner S s h l)) (sym (at-point (startOf t) fits s h l)) (whole .inner-runs inner S I (s - first) (omega arith)),
         );
       }
-
--- nothing is assumed but that run accepts
-pub demand3-of-run : (t : Table) (first last : ℕ) → runOf t first last .answer ≡ done last → Demand3 t first last (runOf t first last .rows)
-demand3-of-run t first last e = demand3 t first last (accepted-of-run t first last last e)

@@ -107,7 +107,8 @@ module _ (t : Table) (A : TablePassed t) (s : ℕ) (h : s < recordCount t) (rows
 
 -- ---- every point of an accepted run
 
-known-results : (t : Table) (first last : ℕ) → Accepted t first last → (s : ℕ) → first ≤ s → s < last → KnownBefore t s (pointRows t first s) → SmtNumber t s (pointRows t first s) (pointRows t first (suc s))
+known-results : (t : Table) (first last : ℕ) → Accepted t first last → (s : ℕ) → first ≤ s → s < last
+    → KnownBefore t s (pointRows t first s) → SmtNumber t s (pointRows t first s) (pointRows t first (suc s))
 unfolding after
 known-results t first last A s h l K =
     let S = start-fits t (A .table) in
