@@ -1,18 +1,21 @@
 -- The plain number of each kind is the number of its SMT-LIB term: at every width that the width rule allows, for all operands. Assumes nothing.
 --   terms-agree, narrow-terms-agree   each term agrees with its kind
 --   terms-kinds, terms-serve          the terms are of all the kinds, in order, and serve every parameter that the checks let pass
---   term-of                           the term of the kind that has a number
+--   term-agrees, term-kind            of any term listed: it agrees with its kind, and its kind is the one that has that number
+--   term-of                           some term is of the kind that has a number
 use mathlib.Core.Path.{_≡_, refl, sym, ap, subst, _∙_}
-use mathlib.Core.Bool.{Bool, true, false, cond, _||_}
-use mathlib.Core.List.{List, [], _∷_, map, List·Memᴰ, List·Memᴰ·head, List·Memᴰ·tail}
+use mathlib.Core.Bool.{Bool, true, false, _||_}
+use mathlib.Core.List.{List, [], _∷_, _++_, map, List·Memᴰ, List·Memᴰ·head, List·Memᴰ·tail, List·Memᴰ·append-cases}
+use mathlib.Core.Logic.{inl, inr}
 use Prim.Native.Nat.{ℕ, _+_, _-_, _^_}
 use native.Mathlib.Omega.{arith}
 use lib.Dec.{T, eqb, eqb→eq, nltb→le, ltb→lt, leb→le}
 use lib.ListN.{getD, drop}
 use Rattle.vectors.specs.Lists.{All}
+use Rattle.vectors.proofs.Lists.{all-imp, all-member}
 use Rattle.operations.specs.Kind.{Kind}
 use Rattle.operations.specs.Moves.{opShl, opLshr, opAshr}
-use Rattle.operations.specs.Kinds.{kinds, numbered, find, isKind, kindOf}
+use Rattle.operations.specs.Kinds.{kinds, numbered, isKind, kindOf}
 use Rattle.operations.specs.Limits.{parameterLimit}
 use Rattle.operations.specs.Bitvector.{bv}
 use Rattle.operations.specs.Terms.{Term, Agrees, always, terms, narrowTerms}
@@ -37,16 +40,16 @@ terms-kinds = refl
 abbrev pub Serving : Term → Type 0
 Serving m = (w p : ℕ) → T (m .serves w p)
 
-serving : (ms : List Term) → map (λ m. m .serves) ms ≡ map (λ m. always) ms → All Serving ms
-serving [] e = tt
-serving (m ∷ ms) e = (
-  subst (λ (f : ℕ → ℕ → Bool). (w p : ℕ) → T (f w p)) (sym (ap (λ l. getD l 0 always) e)) (λ w p. tt),
-  serving ms (ap (drop 1) e),
-)
+-- two functions that give one list agree on each element
+same-maps : {A B : Type 0} (f g : A → B) (b : B) (l : List A) → map f l ≡ map g l → All (λ a. f a ≡ g a) l
+same-maps f g b [] e = tt
+same-maps f g b (a ∷ l) e = (ap (λ m. getD m 0 b) e, same-maps f g b l (ap (drop 1) e))
 
 pub terms-serve : All Serving terms
 unfolding terms
-terms-serve = serving terms refl
+terms-serve =
+    all-imp {Q = λ m. m .serves ≡ always} {P = Serving} (λ m e. subst (λ (f : ℕ → ℕ → Bool). (w p : ℕ) → T (f w p)) {x = always} (sym e) (λ w p. tt)) terms
+    (same-maps (λ (m : Term). m .serves) (λ m. always) always terms refl)
 
 pub terms-agree : All Agrees terms
 unfolding terms kinds bv
@@ -85,25 +88,33 @@ narrow-terms-agree =
     ⨾ by-same _ refl refl (λ p w a s h. ashr-is (s .wide) h (bv-is (ltb→lt p (2 ^ w) (s .serves))))
     ⨾ tt
 
--- ---- the term of a kind
+-- ---- the terms of a kind
 
-abbrev pub Found : List Term → Kind → Type 0
-Found ms k = (m : Term) × List·Memᴰ m ms × (m .kind ≡ k) × Agrees m × Serving m
+pub term-agrees : {m : Term} → List·Memᴰ m (terms ++ narrowTerms) → Agrees m
+term-agrees d = elim (List·Memᴰ·append-cases terms d) [ inl x ↦ all-member Agrees terms terms-agree x | inr y ↦ all-member Agrees narrowTerms narrow-terms-agree y ]
 
-found : (n : ℕ) (ms : List Term) → All Agrees ms → All Serving ms → T (numbered n (map (λ m. m .kind) ms)) → Found ms (find n (map (λ m. m .kind) ms))
-found n [] f g t = absurd t
-found n (m ∷ ms) f g t = choose (eqb (m .kind .number) n) (found n ms (f .1) (g .1)) t
+-- the number of a term's kind is looked up as that kind
+terms-found : All (λ m. kindOf (m .kind .number) ≡ m .kind) (terms ++ narrowTerms)
+unfolding terms narrowTerms kindOf
+terms-found = same-maps (λ (m : Term). kindOf (m .kind .number)) (λ m. m .kind) (kindOf 0) (terms ++ narrowTerms) refl
+
+pub term-kind : {m : Term} → List·Memᴰ m (terms ++ narrowTerms) → kindOf (m .kind .number) ≡ m .kind
+term-kind d = all-member (λ m. kindOf (m .kind .number) ≡ m .kind) (terms ++ narrowTerms) terms-found d
+
+abbrev pub Found : List Term → ℕ → Type 0
+Found ms n = (m : Term) × List·Memᴰ m ms × (m .kind .number ≡ n) × Serving m
+
+found : (n : ℕ) (ms : List Term) → All Serving ms → T (numbered n (map (λ m. m .kind) ms)) → Found ms n
+found n [] g t = absurd t
+found n (m ∷ ms) g t = choose (eqb (m .kind .number) n) (eqb→eq (m .kind .number) n) (found n ms (g .1)) t
   where
-    rest : List Kind
-    rest = map (λ m. m .kind) ms
+    later : Found ms n → Found (m ∷ ms) n
+    later r = (r .0, List·Memᴰ·tail (r .1), r .2, r .3)
 
-    later : Found ms (find n rest) → Found (m ∷ ms) (find n rest)
-    later r = (r .0, List·Memᴰ·tail (r .1), r .2, r .3, r .4)
+    choose : (b : Bool) → (T b → m .kind .number ≡ n) → (T (numbered n (map (λ m. m .kind) ms)) → Found ms n) → T (b || numbered n (map (λ m. m .kind) ms)) → Found (m ∷ ms) n
+    choose true e r t = (m, List·Memᴰ·head refl, e tt, g .0)
+    choose false e r t = later (r t)
 
-    choose : (b : Bool) → (T (numbered n rest) → Found ms (find n rest)) → T (b || numbered n rest) → Found (m ∷ ms) (cond b (m .kind) (find n rest))
-    choose true r t = (m, List·Memᴰ·head refl, refl, f .0, g .0)
-    choose false r t = later (r t)
-
-pub term-of : (n : ℕ) → T (isKind n) → Found terms (kindOf n)
-unfolding isKind kindOf
-term-of n t = subst (λ (ks : List Kind). T (numbered n ks) → Found terms (find n ks)) terms-kinds (found n terms terms-agree terms-serve) t
+pub term-of : (n : ℕ) → T (isKind n) → Found terms n
+unfolding isKind
+term-of n t = found n terms terms-serve (subst (λ (ks : List Kind). T (numbered n ks)) (sym terms-kinds) t)

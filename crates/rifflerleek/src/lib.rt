@@ -4,6 +4,7 @@ ghost use mathlib.Core.List.{[]};
 ghost use Prim.Native.Nat.{_≤_};
 ghost use lib.ListN.{length};
 ghost use Rattle.checks.specs.Model.{lent};
+ghost use Rattle.tables.specs.Known.{Demand2};
 ghost use Rattle.tables.specs.Demand.{Demand3};
 ghost use Rattle.tables.specs.Model.{held};
 ghost use Rattle.tables.specs.Run.{runOf, countOf};
@@ -68,8 +69,15 @@ pub extern "C" fn rifflerleek_run(
     first: usize,
     last: usize,
 ) -> Answer
-    ensures effect { λ r. ⌜ outcome r (held (now (mask .exit)) (now (value .exit))) ≡ hostRan (runOf (lent (now (width .entry)) (now (lock .entry)) (now (mask .entry)) (now (value .entry)) (now (words .entry))) first last) ⌝ }
-    ensures demand3 { λ r. ⌜ (r .refusal ≡ 0 → Demand3 (lent (now (width .entry)) (now (lock .entry)) (now (mask .entry)) (now (value .entry)) (now (words .entry))) first last (held (now (mask .exit)) (now (value .exit)))) ⌝ }
+    ensures effect { λ r.
+        let table = lent (now (width .entry)) (now (lock .entry)) (now (mask .entry)) (now (value .entry)) (now (words .entry)) in
+        ⌜ outcome r (held (now (mask .exit)) (now (value .exit))) ≡ hostRan (runOf table first last) ⌝ }
+    ensures demand2 { λ r.
+        let table = lent (now (width .entry)) (now (lock .entry)) (now (mask .entry)) (now (value .entry)) (now (words .entry)) in
+        ⌜ (r .refusal ≡ 0 → Demand2 table first last (held (now (mask .exit)) (now (value .exit)))) ⌝ }
+    ensures demand3 { λ r.
+        let table = lent (now (width .entry)) (now (lock .entry)) (now (mask .entry)) (now (value .entry)) (now (words .entry)) in
+        ⌜ (r .refusal ≡ 0 → Demand3 table first last (held (now (mask .exit)) (now (value .exit)))) ⌝ }
 {
     match tables::run(width, lock, mask, value, words, first, last) {
         RunAnswer::Done(n) => done(n, 0),
@@ -126,7 +134,9 @@ pub extern "C" fn rifflerleek_write(
     words: &[u32],
     out: &mut [u8],
 ) -> Answer
-    ensures { λ r. ⌜ outcome r (now (out .exit)) ≡ hostWritten (writeOf (lent (now (width .entry)) (now (lock .entry)) (now (mask .entry)) (now (value .entry)) (now (words .entry))) (now (out .entry))) ⌝ }
+    ensures { λ r.
+        let table = lent (now (width .entry)) (now (lock .entry)) (now (mask .entry)) (now (value .entry)) (now (words .entry)) in
+        ⌜ outcome r (now (out .exit)) ≡ hostWritten (writeOf table (now (out .entry))) ⌝ }
 {
     match texts::write(width, lock, mask, value, words, out) {
         BytesAnswer::Bytes(n) => done(n, 0),
@@ -144,7 +154,10 @@ pub extern "C" fn rifflerleek_read(
     value: &mut [u32],
     words: &mut [u32],
 ) -> Answer
-    ensures { λ r. ⌜ outcome r (lent (now (width .exit)) (now (lock .exit)) (now (mask .exit)) (now (value .exit)) (now (words .exit))) ≡ hostRead (readOf (now (text .entry)) (lent (now (width .entry)) (now (lock .entry)) (now (mask .entry)) (now (value .entry)) (now (words .entry)))) ⌝ }
+    ensures { λ r.
+        let table = lent (now (width .entry)) (now (lock .entry)) (now (mask .entry)) (now (value .entry)) (now (words .entry)) in
+        let left = lent (now (width .exit)) (now (lock .exit)) (now (mask .exit)) (now (value .exit)) (now (words .exit)) in
+        ⌜ outcome r left ≡ hostRead (readOf (now (text .entry)) table) ⌝ }
 {
     match texts::read(text, width, lock, mask, value, words) {
         ReadAnswer::Read(rows, records) => done(rows, records as u64),

@@ -17,18 +17,24 @@ use Rattle.checks.proofs.Counts.{row-good}
 use Rattle.tables.specs.Run.{Count, countOf}
 
 module _ (t : Table) (i : ℕ) (e : judged (countChecks t i) ≡ done tt) where
-  -- the count of ones is the count of unknown bits
-  ones-unknown : ones (getD (t .masks) i 0) ≡ unknowns (rowAt (t .widths) (startOf t) i)
+  -- the ones of the mask, and the unknown bits of the row
+  abbrev n : ℕ
+  n = ones (getD (t .masks) i 0)
+
+  abbrev u : ℕ
+  u = unknowns (rowAt (t .widths) (startOf t) i)
+
+  ones-unknown : n ≡ u
   ones-unknown = sym (onesIn-ones _ _ (row-good t i e .formed .mask-below))
 
-  pub count-small : ones (getD (t .masks) i 0) ≤ 32
+  pub count-small : n ≤ 32
   count-small = let h = ones-le _ _ (row-good t i e .formed .mask-below) in let k = row-good t i e .width-most in omega arith
 
-  pub count-is : _≡_ {A = Answer Count} (done (record { unknown = ones (getD (t .masks) i 0); choices = 1 * 2 ^ ones (getD (t .masks) i 0) % 2 ^ 64 })) (countOf t i)
+  power : 1 * 2 ^ n % 2 ^ 64 ≡ 2 ^ u
+  power = shl-exact {a = 1} 1 n 64 (omega arith) (omega (arith, count-small)) ∙ one-mul (2 ^ n) ∙ ap (λ (m : ℕ). 2 ^ m) ones-unknown
+
+  pub count-is : _≡_ {A = Answer Count} (done (record { unknown = n; choices = 1 * 2 ^ n % 2 ^ 64 })) (countOf t i)
   unfolding countOf
   count-is =
       (λ ι. done (record { unknown = ones-unknown ι; choices = power ι }))
-      ∙ sym (done-of-passed (countChecks t i) (record { unknown = unknowns (rowAt (t .widths) (startOf t) i); choices = 2 ^ unknowns (rowAt (t .widths) (startOf t) i) }) (passed-of-done (countChecks t i) tt tt e))
-    where
-      power : 1 * 2 ^ ones (getD (t .masks) i 0) % 2 ^ 64 ≡ 2 ^ unknowns (rowAt (t .widths) (startOf t) i)
-      power = shl-exact {a = 1} 1 (ones (getD (t .masks) i 0)) 64 (omega arith) (omega (arith, count-small)) ∙ one-mul (2 ^ ones (getD (t .masks) i 0)) ∙ ap (λ (u : ℕ). 2 ^ u) ones-unknown
+      ∙ sym (done-of-passed (countChecks t i) (record { unknown = u; choices = 2 ^ u }) (passed-of-done (countChecks t i) tt tt e))

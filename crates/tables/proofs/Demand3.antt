@@ -14,7 +14,7 @@ use Rattle.tables.specs.Step.{after}
 use Rattle.tables.specs.Run.{effectsAt, programOf, Ran, ranAs, runOf, pointRows, plainRun}
 use Rattle.tables.specs.Demand.{StateFits, CoversState, InsideState, After, Demand3}
 use Rattle.tables.proofs.Fits.{FitProgram, effects-fit}
-use Rattle.tables.proofs.Points.{Stretch, stretch}
+use Rattle.tables.proofs.Points.{Stretch, stretch, after-fits}
 
 -- ---- run and acceptance
 
@@ -41,7 +41,8 @@ pub program-fits : (t : Table) → TablePassed t → FitProgram (programOf t)
 program-fits t A i h = effects-fit (t .widths) (recordOf t i) (A .record-passed i h)
 
 -- the same table with other well-formed rows, and a stretch that ends earlier, is accepted too
-pub accepted-with : (t : Table) (first last : ℕ) → Accepted t first last → (rows : State) → StateFits (t .widths) rows → (s : ℕ) → first ≤ s → s ≤ last → Accepted (withRows t rows) first s
+pub accepted-with : (t : Table) (first last : ℕ) → Accepted t first last → (rows : State) → StateFits (t .widths) rows
+    → (s : ℕ) → first ≤ s → s ≤ last → Accepted (withRows t rows) first s
 accepted-with t first last A rows S s h l =
     record {
       table = record {
@@ -52,7 +53,9 @@ accepted-with t first last A rows S s h l =
         values-length = S .values-length;
         words-whole = A .table .words-whole;
         records-most = A .table .records-most;
-        row-passed = λ i k. let R = A .table .row-passed i k in record { width-least = R .width-least; width-most = R .width-most; lock-most = R .lock-most; formed = S .formed i k };
+        row-passed = λ i k.
+            let R = A .table .row-passed i k in
+            record { width-least = R .width-least; width-most = R .width-most; lock-most = R .lock-most; formed = S .formed i k };
         record-passed = A .table .record-passed;
       };
       ordered = h;
@@ -76,6 +79,9 @@ module _ (t : Table) (first last : ℕ) (A : Accepted t first last) where
   pub at-point : (rows : State) → StateFits (t .widths) rows → (s : ℕ) → first ≤ s → s ≤ last → pointRows (withRows t rows) first s ≡ after (programOf t) first (s - first) rows
   at-point rows S s h l = ap (λ (r : Ran). r .rows) (ran-done (withRows t rows) first s (accepted-with t first last A rows S s h l))
 
+  formed : (s : ℕ) → first ≤ s → s ≤ last → StateFits (t .widths) (pointRows t first s)
+  formed s h l = subst (StateFits (t .widths)) (sym (at-point (startOf t) fits s h l)) (after-fits (programOf t) first (startOf t) fits (s - first))
+
   one-effect : (s : ℕ) → (e : Effect) × (effectsAt t s ≡ e ∷ []) × (e .target ≡ targetWord (recordOf t s))
   unfolding effectsOf effectOf
   one-effect s = (effectOf (t .widths) (recordOf t s), refl, refl)
@@ -96,6 +102,7 @@ module _ (t : Table) (first last : ℕ) (A : Accepted t first last) where
         end = refl;
         points = answers (startOf t) fits;
         start = at-point (startOf t) fits first (omega arith) (A .ordered) ∙ ap (λ (n : ℕ). after (programOf t) first n (startOf t)) (sub-self first);
+        formed = λ s h l. formed s h l .formed;
         one-target = λ s h l. one-effect s;
         best-results = best-results;
         plain-runs = λ ns C s h l.
@@ -105,7 +112,3 @@ module _ (t : Table) (first last : ℕ) (A : Accepted t first last) where
           subst₂ (InsideState (t .widths)) (sym (at-point inner S s h l)) (sym (at-point (startOf t) fits s h l)) (whole .inner-runs inner S I (s - first) (omega arith)),
         );
       }
-
--- nothing is assumed but that run accepts
-pub demand3-of-run : (t : Table) (first last : ℕ) → runOf t first last .answer ≡ done last → Demand3 t first last (runOf t first last .rows)
-demand3-of-run t first last e = demand3 t first last (accepted-of-run t first last last e)

@@ -1,7 +1,7 @@
 -- Fully known operand rows give the SMT-LIB number, at every point of an accepted run. Assumes nothing.
-use mathlib.Core.Path.{_≡_, sym, ap, _∙_, subst, subst₂}
+use mathlib.Core.Path.{_≡_, refl, sym, ap, _∙_, subst, subst₂}
 use mathlib.Core.Bool.{not}
-use mathlib.Core.List.{List, map}
+use mathlib.Core.List.{List, map, Memᴰ·append-left}
 use Prim.Native.Nat.{ℕ, suc, _-_, _^_, _≤_, _<_}
 use native.Mathlib.Nat.{add-sub-of-le}
 use native.Mathlib.Omega.{arith}
@@ -14,14 +14,14 @@ use Rattle.operations.specs.Kind.{asks, Kind}
 use Rattle.operations.specs.Kinds.{kindOf}
 use Rattle.operations.specs.Record.{kindWord, targetWord, firstWord, secondWord, parameterWord, kindIn, widthAt, rowsNamed, misused, effectOf, effectsOf}
 use Rattle.operations.specs.Result.{Below, arity}
-use Rattle.operations.specs.Terms.{Term, Served}
-use Rattle.operations.proofs.SmtTerms.{term-of}
+use Rattle.operations.specs.Terms.{Term, narrowTerms, Served}
+use Rattle.operations.proofs.SmtTerms.{term-agrees, term-kind, term-of}
 use Rattle.checks.specs.Table.{State, rowAt, Table, startOf, recordCount, recordOf}
 use Rattle.checks.specs.Accepted.{RecordPassed, TablePassed, Accepted}
 use Rattle.tables.specs.Step.{operandRows, step, after}
 use Rattle.tables.specs.Run.{programOf, pointRows}
 use Rattle.tables.specs.Demand.{StateFits}
-use Rattle.tables.specs.Known.{KnownBefore, SmtNumber}
+use Rattle.tables.specs.Known.{KnownBefore, operandWidths, TermFor, smtVector, knownRow, SmtNumber, Demand2}
 use Rattle.tables.proofs.Lists.{map-map, operands-count}
 use Rattle.tables.proofs.Fits.{effect-fits, effects-fit}
 use Rattle.tables.proofs.Steps.{operands-formed, step-targets}
@@ -34,8 +34,14 @@ module _ (t : Table) (A : TablePassed t) (s : ℕ) (h : s < recordCount t) (rows
   abbrev words : List ℕ
   words = recordOf t s
 
+  abbrev wt : ℕ
+  wt = widthAt (t .widths) (targetWord words)
+
+  abbrev p : ℕ
+  p = parameterWord words
+
   abbrev ws : List ℕ
-  ws = map (widthAt (t .widths)) (rowsNamed words)
+  ws = operandWidths (t .widths) words
 
   abbrev ns : List ℕ
   ns = map (λ i. getD (rows .values) i 0) (rowsNamed words)
@@ -47,48 +53,62 @@ module _ (t : Table) (A : TablePassed t) (s : ℕ) (h : s < recordCount t) (rows
   below : Below ws ns
   below = pointwise-map (λ w n. n < 2 ^ w) (widthAt (t .widths)) (λ i. getD (rows .values) i 0) (λ i l. S .formed i l .value-below) (rowsNamed words) (R .operands-in)
 
-  served : (m : Term) → m .kind ≡ kindOf (kindWord words) → ((w p : ℕ) → T (m .serves w p)) → Served m (widthAt (t .widths) (targetWord words)) (parameterWord words) ws ns
+  of-kind : (m : Term) → TermFor (t .widths) words m → m .kind ≡ kindIn words
+  of-kind m F = sym (term-kind (F .listed)) ∙ ap kindOf (F .of-kind)
+
+  served : (m : Term) → TermFor (t .widths) words m → Served m wt p ws ns
   unfolding rowsNamed
-  served m e all =
+  served m F =
+      let e = of-kind m F in
       record {
-        count = operands-count (widthAt (t .widths)) (kindIn words) (firstWord words) (secondWord words) (parameterWord words) ∙ ap arity (sym e);
+        count = operands-count (widthAt (t .widths)) (kindIn words) (firstWord words) (secondWord words) p ∙ ap arity (sym e);
         wide = A .row-passed (targetWord words) (R .target-in) .width-least;
         widths = all-map (λ w. 1 ≤ w) (widthAt (t .widths)) (λ i l. A .row-passed i l .width-least) (rowsNamed words) (R .operands-in);
         below = below;
-        fits = subst (λ (k : Kind). T (asks (k .rule) (widthAt (t .widths) (targetWord words)) ws (parameterWord words))) (sym e) (R .widths-fit);
-        parameter = subst (λ (k : Kind). T (not (misused (k .use-p) (parameterWord words)))) (sym e) (R .parameter-used);
-        serves = all _ _;
+        fits = subst (λ (k : Kind). T (asks (k .rule) wt ws p)) (sym e) (R .widths-fit);
+        parameter = subst (λ (k : Kind). T (not (misused (k .use-p) p))) (sym e) (R .parameter-used);
+        serves = F .serves;
       }
 
   -- the row that the record leaves at its target
   left-row : rowAt (t .widths) (step (t .widths) (effectsOf (t .widths) words) rows) (targetWord words)
-      ≡ row (widthAt (t .widths) (targetWord words)) 0 (kindIn words .plain (widthAt (t .widths) (targetWord words)) ws (parameterWord words) ns)
+      ≡ row wt 0 (kindIn words .plain wt ws p ns)
   unfolding effectsOf effectOf
   left-row =
       step-targets (t .widths) rows S (effectsOf (t .widths) words) (effects-fit (t .widths) words R) .0
-      ∙ best-known (widthAt (t .widths) (targetWord words)) (effectOf (t .widths) words .value) (operandRows (t .widths) rows (effectOf (t .widths) words))
+      ∙ best-known wt (effectOf (t .widths) words .value) (operandRows (t .widths) rows (effectOf (t .widths) words))
       (operands-formed (t .widths) rows S (effectOf (t .widths) words) (effect-fits (t .widths) words R))
       (all-map (λ r. r .mask ≡ 0) (rowAt (t .widths) rows) (λ i e. e) (rowsNamed words) K)
-      (subst (λ (l : List ℕ). effectOf (t .widths) words .value l < 2 ^ widthAt (t .widths) (targetWord words)) (sym values) (effect-fits (t .widths) words R .value-below ns below))
-      ∙ ap (λ (l : List ℕ). row (widthAt (t .widths) (targetWord words)) 0 (effectOf (t .widths) words .value l)) values
+      (subst (λ (l : List ℕ). effectOf (t .widths) words .value l < 2 ^ wt) (sym values) (effect-fits (t .widths) words R .value-below ns below))
+      ∙ ap (λ (l : List ℕ). row wt 0 (effectOf (t .widths) words .value l)) values
     where
       values : map (λ r. r .value) (map (rowAt (t .widths) rows) (rowsNamed words)) ≡ ns
       values = map-map (λ (r : Row). r .value) (rowAt (t .widths) rows) (rowsNamed words)
 
+  -- that row is the one of each term for the record
+  term-row : (m : Term) → TermFor (t .widths) words m
+      → row wt 0 (kindIn words .plain wt ws p ns) ≡ knownRow (smtVector m (t .widths) words (rows .values))
+  term-row m F =
+      let agrees = term-agrees (F .listed) in
+      let w = agrees .width-is wt p ws ns (served m F) in
+      let n = ap (λ (k : Kind). k .plain wt ws p ns) (sym (of-kind m F))
+      ∙ sym (agrees .number-is wt p ws ns (served m F)) in
+      λ ι. row (sym w ι) 0 (n ι)
+
+  some-term : (m : Term) × TermFor (t .widths) words m
+  some-term =
+      let (m, member, e, all) = term-of (kindWord words) (R .kind-known) in (
+        m,
+        record { listed = Memᴰ·append-left narrowTerms member; of-kind = e; serves = all _ _ },
+      )
+
   pub smt-step : SmtNumber t s rows (step (t .widths) (effectsOf (t .widths) words) rows)
-  smt-step =
-      let (m, member, e, agrees, all) = term-of (kindWord words) (R .kind-known) in
-      record {
-        term = m;
-        listed = member;
-        kind-is = e;
-        target-is = left-row ∙ ap (row (widthAt (t .widths) (targetWord words)) 0)
-            (ap (λ (k : Kind). k .plain (widthAt (t .widths) (targetWord words)) ws (parameterWord words) ns) (sym e) ∙ sym (agrees .number-is (widthAt (t .widths) (targetWord words)) (parameterWord words) ws ns (served m e all)));
-      }
+  smt-step = record { some-term = some-term; target-is = λ m F. left-row ∙ term-row m F }
 
 -- ---- every point of an accepted run
 
-pub known-results : (t : Table) (first last : ℕ) → Accepted t first last → (s : ℕ) → first ≤ s → s < last → KnownBefore t s (pointRows t first s) → SmtNumber t s (pointRows t first s) (pointRows t first (suc s))
+known-results : (t : Table) (first last : ℕ) → Accepted t first last → (s : ℕ) → first ≤ s → s < last
+    → KnownBefore t s (pointRows t first s) → SmtNumber t s (pointRows t first s) (pointRows t first (suc s))
 unfolding after
 known-results t first last A s h l K =
     let S = start-fits t (A .table) in
@@ -99,3 +119,6 @@ known-results t first last A s h l K =
     ∙ ap (λ (i : ℕ). step (t .widths) (effectsOf (t .widths) (recordOf t i)) rows) (add-sub-of-le h) in
     subst₂ (SmtNumber t s) (sym here) (sym there)
     (smt-step t (A .table) s (let w = A .within in omega arith) rows (after-fits (programOf t) first (startOf t) S (s - first)) (subst (KnownBefore t s) here K))
+
+pub demand2 : (t : Table) (first last : ℕ) → Accepted t first last → Demand2 t first last (pointRows t first last)
+demand2 t first last A = record { end = refl; numbers = known-results t first last A }

@@ -10,26 +10,39 @@ use Rattle.checks.specs.Model.{judged}
 use Rattle.checks.proofs.Accepts.{accepted-of-answer}
 use Rattle.checks.proofs.Verdicts.{refused-any}
 use Rattle.tables.specs.Step.{after}
-use Rattle.tables.specs.Run.{programOf, Ran, ranAs, runOf}
+use Rattle.tables.specs.Run.{programOf, Ran, ranAs, runOf, pointRows}
+use Rattle.tables.specs.Known.{Demand2}
 use Rattle.tables.specs.Demand.{Demand3}
 use Rattle.tables.proofs.Demand3.{ran-done, demand3}
+use Rattle.tables.proofs.Known.{demand2}
 
 pub never-done : {A : Type 0} (n i : ℕ) (a : A) → _≡_ {A = Answer A} (refused n i) (done a) → ⊥
 never-done n i a e = let z : _≡_ {A = ℕ} 0 1 = cc in omega arith
 
+-- what run's contract asks of an answer and the rows left
+abbrev pub Meets : Table → ℕ → ℕ → Ran → Type 0
+Meets t first last a =
+    (a ≡ runOf t first last) × ((a .answer ≡ done last → Demand2 t first last (a .rows)) × (a .answer ≡ done last → Demand3 t first last (a .rows)))
+
 module _ (t : Table) (first last : ℕ) where
   -- a refusal leaves the rows as lent
-  pub refused-run : (n i : ℕ) → judged (runChecks t first last) ≡ refused n i → _≡_ {A = Ran} (record { answer = refused n i; rows = startOf t }) (runOf t first last)
+  pub refused-meets : (n i : ℕ) → judged (runChecks t first last) ≡ refused n i → Meets t first last (record { answer = refused n i; rows = startOf t })
   unfolding runOf
-  refused-run n i e = sym (ap (λ (a : Answer ℕ). ranAs a t first) (refused-any (runChecks t first last) tt last n i e))
+  refused-meets n i e = (
+    sym (ap (λ (a : Answer ℕ). ranAs a t first) (refused-any (runChecks t first last) tt last n i e)),
+    (λ z. absurd (never-done n i last z), λ z. absurd (never-done n i last z)),
+  )
 
   pub accepted-run : judged (runChecks t first last) ≡ done tt → Accepted t first last
   accepted-run e = accepted-of-answer t first last tt tt e
 
   module _ (A : Accepted t first last) (rows : State) (e : rows ≡ after (programOf t) first (last - first) (startOf t)) where
-    pub done-run : _≡_ {A = Ran} (record { answer = done last; rows = rows }) (runOf t first last)
+    done-run : _≡_ {A = Ran} (record { answer = done last; rows = rows }) (runOf t first last)
     done-run = (λ ι. record { answer = done last; rows = e ι }) ∙ sym (ran-done t first last A)
 
-    -- demand 3 of the rows that run leaves
-    pub demand3-left : Demand3 t first last rows
-    demand3-left = subst (Demand3 t first last) (sym (ap (λ (r : Ran). r .rows) done-run)) (demand3 t first last A)
+    -- what holds of the rows at point last holds of the rows that run leaves
+    left : (P : State → Type 0) → P (pointRows t first last) → P rows
+    left P p = subst P (sym (ap (λ (r : Ran). r .rows) done-run)) p
+
+    pub done-meets : Meets t first last (record { answer = done last; rows = rows })
+    done-meets = (done-run, (λ z. left (Demand2 t first last) (demand2 t first last A), λ z. left (Demand3 t first last) (demand3 t first last A)))

@@ -36,15 +36,18 @@ pub record After (widths : List ℕ) (es : List Effect) (s t : State) : Type 0 w
   pub others : (i : ℕ) → All (λ e. e .target ≢ i) es → rowAt widths t i ≡ rowAt widths s i
 
 -- end: the rows left are those at point last.  points: run from first up to each point is accepted.
--- start: at point first they are the start rows, as lent.  one-target: a record has one effect, on the row that its word t names.
--- best-results: what each record does.  plain-runs: whatever plain numbers the start rows covered, the plain run from them is covered at every point.
+-- start: at point first they are the start rows, as lent.  formed: at every point every row is well formed: no bit is set in both mask and value.
+-- one-target: a record has one effect, on the row that its word t names.  best-results: what each record does.
+-- plain-runs: whatever plain numbers the start rows covered, the plain run from them is covered at every point.
 -- inner-runs: from other well-formed start rows, each inside the first run's, a second run is accepted and stays inside at every point.
 pub record Demand3 (t : Table) (first last : ℕ) (rows : State) : Type 0 where
   pub end : rows ≡ pointRows t first last
   pub points : (s : ℕ) → first ≤ s → s ≤ last → runOf t first s .answer ≡ done s
   pub start : pointRows t first first ≡ startOf t
+  pub formed : (s : ℕ) → first ≤ s → s ≤ last → (i : ℕ) → i < length (t .widths) → WellFormed (rowAt (t .widths) (pointRows t first s) i)
   pub one-target : (s : ℕ) → first ≤ s → s < last → (e : Effect) × (effectsAt t s ≡ e ∷ []) × (e .target ≡ targetWord (recordOf t s))
   pub best-results : (s : ℕ) → first ≤ s → s < last → After (t .widths) (effectsAt t s) (pointRows t first s) (pointRows t first (suc s))
-  pub plain-runs : (ns : List ℕ) → CoversState (t .widths) (startOf t) ns → (s : ℕ) → first ≤ s → s ≤ last → CoversState (t .widths) (pointRows t first s) (plainRun t first s ns)
+  pub plain-runs : (ns : List ℕ) → CoversState (t .widths) (startOf t) ns → (s : ℕ) → first ≤ s → s ≤ last
+      → CoversState (t .widths) (pointRows t first s) (plainRun t first s ns)
   pub inner-runs : (inner : State) → StateFits (t .widths) inner → InsideState (t .widths) inner (startOf t) → (s : ℕ) → first ≤ s → s ≤ last
       → (runOf (withRows t inner) first s .answer ≡ done s) × InsideState (t .widths) (pointRows (withRows t inner) first s) (pointRows t first s)

@@ -1,27 +1,51 @@
 -- Demand 2's first sentence over a run: "On fully known rows each operation gives the number that SMT-LIB's theory of fixed-size bit vectors gives."
 --   KnownBefore t s rows       every operand row of record s is fully known in the rows before it
---   smtNumber m widths words values   the number of the term m of a record, over its operand rows' values
---   SmtNumber t s rows next    in the rows after it the target row is fully known, and is the number of the kind's SMT-LIB term
+--   operandWidths widths words the widths of a record's operand rows
+--   TermFor widths words m     m is a term for the record: listed, of its kind, and serving its first operand's width and its parameter
+--   smtVector m widths words values   the vector that this term gives, over the values of the operand rows
+--   knownRow v                 the fully known row with the width and the number of the vector v
+--   SmtNumber t s rows next    what record s gives where its operand rows are fully known
+--   Demand2 t first last rows  the claim, of the rows that run leaves
 use mathlib.Core.Path.{_≡_}
-use mathlib.Core.List.{List, List·Memᴰ, map}
-use Prim.Native.Nat.{ℕ}
+use mathlib.Core.List.{List, List·Memᴰ, _++_, map}
+use Prim.Native.Nat.{ℕ, suc, _≤_, _<_}
+use lib.Dec.{T}
 use lib.ListN.{getD}
 use Rattle.vectors.specs.Lists.{All}
-use Rattle.vectors.specs.Row.{row}
-use Rattle.operations.specs.Record.{kindIn, targetWord, parameterWord, rowsNamed, widthAt}
-use Rattle.operations.specs.Bitvector.{nat}
-use Rattle.operations.specs.Terms.{Term, terms, vectors}
+use Rattle.vectors.specs.Row.{Row, row}
+use Rattle.operations.specs.Kind.{first}
+use Rattle.operations.specs.Record.{kindWord, targetWord, parameterWord, rowsNamed, widthAt}
+use Rattle.operations.specs.Bitvector.{Bitvector, nat}
+use Rattle.operations.specs.Terms.{Term, terms, narrowTerms, vectors}
 use Rattle.checks.specs.Table.{State, rowAt, Table, recordOf}
+use Rattle.tables.specs.Run.{pointRows}
 
 abbrev pub KnownBefore : Table → ℕ → State → Type 0
 KnownBefore t s rows = All (λ i. getD (rows .masks) i 0 ≡ 0) (rowsNamed (recordOf t s))
 
-abbrev pub smtNumber : Term → List ℕ → List ℕ → List ℕ → ℕ
-smtNumber m widths words values =
-    nat (m .term (widthAt widths (targetWord words)) (parameterWord words) (vectors (map (widthAt widths) (rowsNamed words)) (map (λ i. getD values i 0) (rowsNamed words))))
+abbrev pub operandWidths : List ℕ → List ℕ → List ℕ
+operandWidths widths words = map (widthAt widths) (rowsNamed words)
 
+-- of a shift by p < 2^w there are two: the one of the same width, and the one of a vector five bits wider
+pub record TermFor (widths words : List ℕ) (m : Term) : Type 0 where
+  pub listed : List·Memᴰ m (terms ++ narrowTerms)
+  pub of-kind : m .kind .number ≡ kindWord words
+  pub serves : T (m .serves (first (operandWidths widths words)) (parameterWord words))
+
+abbrev pub smtVector : Term → List ℕ → List ℕ → List ℕ → Bitvector
+smtVector m widths words values =
+    m .term (widthAt widths (targetWord words)) (parameterWord words) (vectors (operandWidths widths words) (map (λ i. getD values i 0) (rowsNamed words)))
+
+abbrev pub knownRow : Bitvector → Row
+knownRow v = row (v .width) 0 (nat v)
+
+-- some-term: there is a term for the record.  target-is: in the rows after it the target row is the fully known row of every term for it.
 pub record SmtNumber (t : Table) (s : ℕ) (rows next : State) : Type 0 where
-  pub term : Term
-  pub listed : List·Memᴰ term terms
-  pub kind-is : term .kind ≡ kindIn (recordOf t s)
-  pub target-is : rowAt (t .widths) next (targetWord (recordOf t s)) ≡ row (widthAt (t .widths) (targetWord (recordOf t s))) 0 (smtNumber term (t .widths) (recordOf t s) (rows .values))
+  pub some-term : (m : Term) × TermFor (t .widths) (recordOf t s) m
+  pub target-is : (m : Term) → TermFor (t .widths) (recordOf t s) m
+      → rowAt (t .widths) next (targetWord (recordOf t s)) ≡ knownRow (smtVector m (t .widths) (recordOf t s) (rows .values))
+
+-- end: the rows left are those at point last.  numbers: each record whose operand rows are fully known gives SMT-LIB's number.
+pub record Demand2 (t : Table) (first last : ℕ) (rows : State) : Type 0 where
+  pub end : rows ≡ pointRows t first last
+  pub numbers : (s : ℕ) → first ≤ s → s < last → KnownBefore t s (pointRows t first s) → SmtNumber t s (pointRows t first s) (pointRows t first (suc s))

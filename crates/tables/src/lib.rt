@@ -4,6 +4,7 @@ ghost use mathlib.Core.List.{[]};
 ghost use Rattle.checks.specs.Check.{done};
 ghost use Rattle.checks.specs.Model.{lent};
 ghost use Rattle.tables.specs.Run.{runOf, countOf};
+ghost use Rattle.tables.specs.Known.{Demand2};
 ghost use Rattle.tables.specs.Demand.{Demand3};
 use checks::Refusal;
 use checks::Verdict;
@@ -23,7 +24,9 @@ pub enum CountAnswer {
 
 // How many bits of a row are unknown, and how many numbers it covers.
 pub fn count(width: &[u8], lock: &[u8], mask: &[u32], value: &[u32], row: usize) -> CountAnswer
-    ensures { λ r. ⌜ countModel r ≡ countOf (lent (now (width .entry)) (now (lock .entry)) (now (mask .entry)) (now (value .entry)) []) row ⌝ }
+    ensures { λ r.
+        let table = lent (now (width .entry)) (now (lock .entry)) (now (mask .entry)) (now (value .entry)) [] in
+        ⌜ countModel r ≡ countOf table row ⌝ }
 {
     match check_count(width, lock, mask, value, row) {
         Verdict::Refused(r) => CountAnswer::Refused(r),
@@ -50,8 +53,15 @@ pub fn run(
     first: usize,
     last: usize,
 ) -> RunAnswer
-    ensures effect { λ r. ⌜ ran r (now (mask .exit)) (now (value .exit)) ≡ runOf (lent (now (width .entry)) (now (lock .entry)) (now (mask .entry)) (now (value .entry)) (now (words .entry))) first last ⌝ }
-    ensures demand3 { λ r. ⌜ (runModel r ≡ done last → Demand3 (lent (now (width .entry)) (now (lock .entry)) (now (mask .entry)) (now (value .entry)) (now (words .entry))) first last (held (now (mask .exit)) (now (value .exit)))) ⌝ }
+    ensures effect { λ r.
+        let table = lent (now (width .entry)) (now (lock .entry)) (now (mask .entry)) (now (value .entry)) (now (words .entry)) in
+        ⌜ ran r (now (mask .exit)) (now (value .exit)) ≡ runOf table first last ⌝ }
+    ensures demand2 { λ r.
+        let table = lent (now (width .entry)) (now (lock .entry)) (now (mask .entry)) (now (value .entry)) (now (words .entry)) in
+        ⌜ (runModel r ≡ done last → Demand2 table first last (held (now (mask .exit)) (now (value .exit)))) ⌝ }
+    ensures demand3 { λ r.
+        let table = lent (now (width .entry)) (now (lock .entry)) (now (mask .entry)) (now (value .entry)) (now (words .entry)) in
+        ⌜ (runModel r ≡ done last → Demand3 table first last (held (now (mask .exit)) (now (value .exit)))) ⌝ }
 {
     match check_run(width, lock, mask, value, words, first, last) {
         Verdict::Refused(r) => {

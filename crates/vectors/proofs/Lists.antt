@@ -1,5 +1,7 @@
 -- Laws of properties along lists. Assumes nothing.
-use mathlib.Core.List.{List, [], _∷_, map}
+use mathlib.Core.Path.{sym, subst}
+use mathlib.Core.Logic.{inl, inr}
+use mathlib.Core.List.{List, [], _∷_, map, List·Memᴰ, List·Memᴰ·not-nil, List·Memᴰ·cases-cons}
 use Rattle.vectors.specs.Lists.{All, Pointwise}
 
 pub all-map : {A B : Type 0} {Q : A → Type 0} (P : B → Type 0) (g : A → B) → ((a : A) → Q a → P (g a)) → (l : List A) → All Q l → All P (map g l)
@@ -17,6 +19,10 @@ all-both h (a ∷ l) q r = (h a (q .0) (r .0), all-both h l (q .1) (r .1))
 pub all-of : {A : Type 0} {P : A → Type 0} → ((a : A) → P a) → (l : List A) → All P l
 all-of h [] = tt
 all-of h (a ∷ l) = (h a, all-of h l)
+
+pub all-member : {A : Type 0} (P : A → Type 0) {a : A} (l : List A) → All P l → List·Memᴰ a l → P a
+all-member P [] q d = absurd (List·Memᴰ·not-nil d)
+all-member P (b ∷ l) q d = elim (List·Memᴰ·cases-cons d) [ inl e ↦ subst P (sym e) (q .0) | inr m ↦ all-member P l (q .1) m ]
 
 pub pointwise-map : {A B C : Type 0} {Q : A → Type 0} (R : B → C → Type 0) (g : A → B) (g′ : A → C) → ((a : A) → Q a → R (g a) (g′ a)) → (l : List A) → All Q l → Pointwise R (map g l) (map g′ l)
 pointwise-map R g g′ h [] q = tt
