@@ -7,9 +7,12 @@ use Rattle.checks.specs.Check.{Answer, done, refused, verdict}
 use Rattle.checks.specs.Checks.{runChecks}
 use Rattle.checks.specs.Table.{Table}
 use Rattle.checks.proofs.Verdicts.{passed-of-done, done-of-passed}
+use Rattle.tables.specs.Known.{Demand2}
+use Rattle.tables.specs.Demand.{Demand3}
 use Rattle.tables.specs.Run.{Ran, ranAs, runOf}
 use Rattle.tables.specs.declared.RunAnswer.{RunAnswer}
 use Rattle.tables.specs.Model.{held, runModel, ran}
+use Rattle.tables.proofs.RunLaws.{Meets}
 use Rattle.rifflerleek.specs.declared.Answer.{Answer as HostAnswer}
 use Rattle.rifflerleek.specs.Host.{numberAnswer, outcome, hostRan}
 use Rattle.rifflerleek.proofs.Numbered.{run-refused}
@@ -31,11 +34,11 @@ module _ (t : Table) (first last : ℕ) where
   zero-done (done n) e z = done-last n e
   zero-done (refused n i) e z = let h = run-refused t first last n i (sym e) in absurd (omega arith)
 
-  -- r: run's answer, found to be s; h: what the host is handed for it; P, Q: what is claimed of a done run
-  pub run-hosted : (P Q : Type 0) (r s : RunAnswer) (h : HostAnswer) (masks values : List ℕ) → r ≡ s → h ≡ numberAnswer (runModel s)
-      → (ran r masks values ≡ runOf t first last) × ((runModel r ≡ done last → P) × (runModel r ≡ done last → Q))
-      → (outcome h (held masks values) ≡ hostRan (runOf t first last)) × ((h .refusal ≡ 0 → P) × (h .refusal ≡ 0 → Q))
-  run-hosted P Q r s h masks values g e f =
+  -- r: run's answer, found to be s; h: what the host is handed for it
+  pub run-hosted : (r s : RunAnswer) (h : HostAnswer) (masks values : List ℕ) → r ≡ s → h ≡ numberAnswer (runModel s) → Meets t first last (ran r masks values)
+      → (outcome h (held masks values) ≡ hostRan (runOf t first last))
+      × ((h .refusal ≡ 0 → Demand2 t first last (held masks values)) × (h .refusal ≡ 0 → Demand3 t first last (held masks values)))
+  run-hosted r s h masks values g e f =
       let k = ap (λ (x : RunAnswer). ran x masks values) (sym g) ∙ f .0 in
       let is-done : h .refusal ≡ 0 → runModel r ≡ done last =
       λ z. ap runModel g ∙ zero-done (runModel s) (ap (λ (x : Ran). x .answer) k ∙ run-answer) (ap (λ (a : HostAnswer). a .refusal) (sym e) ∙ z) in (

@@ -10,7 +10,7 @@ returns : tie.Need-returns
 returns c =
     let a = c .before .before .before .before .before .before .before .before .before .before .before .before .before .before .before .before .args in
     let u = c .before .before .before .before .before .before .before .before .run in
-    run-hosted (lent (a .width .now) (a .lock .now) (a .mask .now) (a .value .now) (a .words .now)) (a .first) (a .last) _ _ _
+    run-hosted (lent (a .width .now) (a .lock .now) (a .mask .now) (a .value .now) (a .words .now)) (a .first) (a .last) _
     (Done (c .before .before .n .given .0 .0)) (c .done .result) (u .last .1 .1 .0) (u .last .1 .1 .1 .0)
     (c .before .before .n .given .1) (c .done .ensures) (u .ensures)
 
@@ -18,7 +18,7 @@ returns-2 : tie.Need-returns-2
 returns-2 c =
     let a = c .before .before .before .before .before .before .before .before .before .before .before .before .before .before .before .before .args in
     let u = c .before .before .before .before .before .before .before .before .run in
-    run-hosted (lent (a .width .now) (a .lock .now) (a .mask .now) (a .value .now) (a .words .now)) (a .first) (a .last) _ _ _
+    run-hosted (lent (a .width .now) (a .lock .now) (a .mask .now) (a .value .now) (a .words .now)) (a .first) (a .last) _
     (Refused (c .before .before .r .given .0 .0)) (c .refused .result) (u .last .1 .1 .0) (u .last .1 .1 .1 .0)
     (c .before .before .r .given .1) (c .refused .ensures) (u .ensures)
 
