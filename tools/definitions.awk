@@ -1,7 +1,8 @@
 # Takes the files of crates/ apart. One line for each thing found, its fields parted by tabs:
 #   kind, crate, file, name, lines, text
 # kind: definition (a name of specs/), law (a name of proofs/), proof (a function's proof, one file), promise (a function's contract),
-# type (a struct or enum of src/), use (an import). The text has no comments, and its white space is single spaces; lines are those with text.
+# case (a case of a data type, its text the type's name), type (a struct or enum of src/), use (an import).
+# The text has no comments, and its white space is single spaces; lines are those with text.
 # Run by tools/landing and tools/believe with LC_ALL=C, on crates/*/specs/*.antt, crates/*/proofs/**/*.antt and crates/*/src/*.rt.
 
 function emit(what, called, count, said) {
@@ -69,6 +70,10 @@ folder != "src" {
         depth = indent / 2
         name = found
         for (i = 1; i <= depth; i++) text = text header[i]
+    }
+    else if (text ~ /^ *(pub )?data / && match($0, /^ +[^:]* :/)) {
+        n = split(substr($0, 1, RLENGTH - 1), words, " ")
+        for (i = 1; i <= n; i++) emit("case", words[i], 1, name)
     }
     text = text " " $0
     lines++
