@@ -9,7 +9,7 @@ use Rattle.operations.specs.Kind.{chosenWidths}
 use Rattle.operations.specs.Bitwise.{opCopy, opNot, opAnd, opOr, opXor}
 use Rattle.operations.specs.Moves.{opShl, opLshr, opAshr, opRotl, opExtract, opConcat, opZext, opSext}
 use Rattle.operations.specs.Arithmetic.{opAdd, opSub, opNeg, opMul, opEq, opUlt, opSlt, opIte}
-use Rattle.operations.specs.Kinds.{kinds, kindOf}
+use Rattle.operations.specs.Kinds.{kindOf}
 use Rattle.operations.specs.Result.{resultOf}
 use Rattle.kernels.proofs.Dispatch.{Given, Arm, arm, none, rule, both-same, one-row, two-rows, compared-rows}
 

@@ -6,7 +6,7 @@ use mathlib.Core.List.{List, [], _∷_}
 use Prim.Native.Nat.{ℕ, zero, suc, _+_, _-_, _*_, _/_, _%_, _^_, _<_}
 use native.Mathlib.Nat.{mod-lt, lt-of-lt-of-le, lt-of-le-of-lt}
 use native.Mathlib.Omega.{arith}
-use lib.Dec.{T, leb, ltb, eqb, eqb→eq, leb→le}
+use lib.Dec.{T, ltb, eqb, eqb→eq, leb→le}
 use lib.ListN.{getD}
 use lib.Bits.{and-lt, or-lt, xor-lt}
 use lib.Pow.{pow-pos, pow-mono, pow-add, shr-le, ones-sub-lt}

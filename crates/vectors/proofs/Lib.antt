@@ -3,7 +3,6 @@ pub mod Lists
 pub mod Rows
 pub mod Choices
 pub mod Hulls
-pub mod Insides
 pub mod Joins
 pub mod Bests
 pub mod BestLaws
