@@ -2,6 +2,7 @@
 pub mod Lists
 pub mod Rows
 pub mod Choices
+pub mod Operands
 pub mod Hulls
 pub mod Joins
 pub mod Bests
