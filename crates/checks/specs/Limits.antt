@@ -1,11 +1,7 @@
 -- Numbers that 01, "Vectors and rows", "Records" and "Calls" set.
---   widthLimit    the greatest width
 --   rowLimit      the most rows of a table;   recordLimit   the most records
 --   rowBytes      size's bytes a row;         recordBytes   size's bytes a record
 use Prim.Native.Nat.{ℕ}
-
-abbrev pub widthLimit : ℕ
-widthLimit = 32
 
 abbrev pub rowLimit : ℕ
 rowLimit = 256
