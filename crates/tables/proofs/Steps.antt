@@ -1,7 +1,7 @@
 -- What one record does: to the rows, to plain numbers, and to both together. Assumes nothing.
 use mathlib.Core.Path.{_≡_, sym, subst}
 use mathlib.Core.Logic.{_≢_}
-use mathlib.Core.List.{List, map}
+use mathlib.Core.List.{List, map, map-map}
 use Prim.Native.Nat.{ℕ, _<_}
 use lib.ListN.{length, getD}
 use Rattle.vectors.specs.Lists.{All}
@@ -17,7 +17,6 @@ use Rattle.operations.specs.Result.{Below}
 use Rattle.checks.specs.Table.{State, rowAt}
 use Rattle.tables.specs.Step.{operandRows, operandNumbers, result, step, plainStep}
 use Rattle.tables.specs.Demand.{StateFits, CoversState, InsideState, After}
-use Rattle.tables.proofs.Lists.{map-map}
 use Rattle.tables.proofs.Fits.{Fit, FitRecord}
 use Rattle.tables.proofs.PutAll.{FitPut, fits-all, others-all, targets-all, covers-all, inside-all, numbers-other, numbers-all}
 
