@@ -33,14 +33,6 @@ T-or false b p = inr p
 pub eq→eqb : {m n : ℕ} → m ≡ n → T (eqb m n)
 eq→eqb {m} e = subst (λ (x : ℕ). T (eqb m x)) e (eqb-refl m)
 
-pub T-not-or : (a b : Bool) → T (not (a || b)) → T (not a) × T (not b)
-T-not-or true b t = absurd t
-T-not-or false b t = (tt, t)
-
-pub not-or-T : (a b : Bool) → T (not a) → T (not b) → T (not (a || b))
-not-or-T true b t u = t
-not-or-T false b t u = u
-
 pub T-not-not : (a : Bool) → T (not (not a)) → T a
 T-not-not true t = tt
 T-not-not false t = t

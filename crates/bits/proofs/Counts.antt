@@ -1,20 +1,9 @@
 -- Counts of the set bits of a number. Assumes nothing.
 use mathlib.Core.Path.{_≡_, refl, ap}
-use Prim.Native.Nat.{ℕ, zero, suc, _+_, _/_, _≤_}
-use native.Mathlib.Omega.{arith}
-use lib.Count.{onesIn, ones}
+use Prim.Native.Nat.{ℕ, zero, suc, _+_}
+use lib.Count.{onesIn}
 
 pub onesIn-zero : (w : ℕ) → onesIn w 0 ≡ 0
 unfolding onesIn
 onesIn-zero zero = refl
 onesIn-zero (suc w) = ap (λ (x : ℕ). 0 + x) (onesIn-zero w)
-
-pub ones-zero : ones 0 ≡ 0
-unfolding ones
-ones-zero = onesIn-zero 0
-
--- at most as many as the width; for all set bits of a number below 2 ^ w it is `ones-le` of `lib.Count`
-pub onesIn-le : (w n : ℕ) → onesIn w n ≤ w
-unfolding onesIn
-onesIn-le zero n = omega arith
-onesIn-le (suc w) n = omega (arith, onesIn-le w (n / 2))

@@ -1,6 +1,6 @@
 -- The number that has given bits, and the tests of bits. Assumes nothing.
---   digit-isSet, isSet-one, one-isSet, ..          a test of a bit and the bit
---   number-ext, isSet-number, bit-number-above     the number of given bits
+--   digit-isSet, isSet-true, isSet-false, ..       a test of a bit and the bit
+--   number-ext                                     the number of given bits
 --   number-of-bits, number-self                    the number of a number's own bits
 --   zero-of-bits, below-of-bits                    a number without bits at or above w is below 2 ^ w
 use mathlib.Core.Path.{_≡_, refl, sym, ap, ap₂, _∙_}
@@ -9,12 +9,11 @@ use mathlib.Core.Logic.{inl, inr}
 use Prim.Native.Nat.{ℕ, zero, suc, _+_, _*_, _/_, _%_, _^_, _≤_, _<_}
 use native.Mathlib.Nat.{mod-lt, mod-eq-of-lt}
 use native.Mathlib.Omega.{arith}
-use lib.Dec.{T, eqb, eqb→eq}
+use lib.Dec.{eqb}
 use lib.Pow.{pow-pos, split}
 use lib.Arith.{bin-ind}
 use Rattle.bits.specs.Bit.{bit, isSet, digit, number}
-use Rattle.bits.proofs.Bools.{eq→eqb}
-use Rattle.bits.proofs.Bits.{bit-zero, bit-suc, bit-above, bit-cases, bit-ext, number-below, bit-number}
+use Rattle.bits.proofs.Bits.{bit-zero, bit-suc, bit-cases, bit-ext, number-below, bit-number}
 use Rattle.bits.proofs.Shifts.{bit-div, bit-mod}
 
 -- ---- isSet and bit
@@ -26,14 +25,6 @@ digit-isSet n k =
       | inl e ↦ ap (λ (b : ℕ). digit (eqb b 1)) e ∙ sym e
       | inr e ↦ ap (λ (b : ℕ). digit (eqb b 1)) e ∙ sym e
     ]
-
-pub isSet-one : (n k : ℕ) → T (isSet n k) → bit n k ≡ 1
-unfolding isSet
-isSet-one n k t = eqb→eq (bit n k) 1 t
-
-pub one-isSet : (n k : ℕ) → bit n k ≡ 1 → T (isSet n k)
-unfolding isSet
-one-isSet n k e = eq→eqb e
 
 pub isSet-true : (n k : ℕ) → bit n k ≡ 1 → isSet n k ≡ true
 unfolding isSet
@@ -61,12 +52,6 @@ number-ext (suc w) p q h =
     ap₂ (λ (x y : ℕ). x * 2 + y)
     (number-ext w (λ k. p (suc k)) (λ k. q (suc k)) (λ k l. h (suc k) (omega arith)))
     (ap digit (h 0 (omega arith)))
-
-pub bit-number-above : (w : ℕ) (p : ℕ → Bool) (k : ℕ) → w ≤ k → bit (number w p) k ≡ 0
-bit-number-above w p k l = bit-above w (number w p) k (number-below w p) l
-
-pub isSet-number : (w : ℕ) (p : ℕ → Bool) (k : ℕ) → k < w → isSet (number w p) k ≡ p k
-isSet-number w p k l = isSet-digit (number w p) k (p k) (bit-number w p k l)
 
 -- the bits of a number make up the number
 pub number-of-bits : (w n : ℕ) → number w (isSet n) ≡ n % 2 ^ w

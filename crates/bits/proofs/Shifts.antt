@@ -3,10 +3,10 @@
 --   bit-low, bit-high                      two numbers concatenated, the low one of w bits
 --   bit-mod, bit-mod-above, bit-same-low   a number cut to w bits
 --   mod-pow-suc, top-split                 a number of w + 1 bits is its top bit and the rest
---   top-one, top-zero, bit-one-le          the top bit tells whether the number is at least 2 ^ w
+--   top-one, top-zero                      the top bit tells whether the number is at least 2 ^ w
 use mathlib.Core.Path.{_≡_, sym, ap, _∙_}
 use Prim.Native.Nat.{ℕ, zero, suc, _+_, _-_, _*_, _/_, _%_, _^_, _≤_, _<_}
-use native.Mathlib.Nat.{add-comm, add-zero, mul-assoc, mul-add-mod-self-right, mod-lt, mod-eq-of-lt, mod-le, one-mul, zero-mul}
+use native.Mathlib.Nat.{add-comm, add-zero, mul-assoc, mul-add-mod-self-right, mod-lt, mod-eq-of-lt, one-mul, zero-mul}
 use native.Mathlib.Numerals.{one-add}
 use native.Mathlib.Omega.{arith}
 use lib.Pow.{pow-add, pow-pos, shr-shr, shl-shr, split, high, field, mod-pow-add}
@@ -65,9 +65,6 @@ top-one n w h l = go (bit n w) (bit-lt n w) (top-split n w h)
     go : (b : ℕ) → b < 2 → n ≡ b * 2 ^ w + n % 2 ^ w → b ≡ 1
     go zero c e = absurd (omega (arith, mod-lt n (pow-pos w), one-mul (2 ^ w)))
     go (suc b) c e = omega arith
-
-pub bit-one-le : (n k : ℕ) → bit n k ≡ 1 → 2 ^ k ≤ n
-bit-one-le n k e = omega (arith, mod-pow-suc n k, ap (λ (x : ℕ). x * 2 ^ k) e, one-mul (2 ^ k), mod-le n (2 ^ suc k))
 
 pub top-zero : (n w : ℕ) → n < 2 ^ suc w → bit n w ≡ 0 → n < 2 ^ w
 top-zero n w h e = omega (arith, top-split n w h, ap (λ (x : ℕ). x * 2 ^ w) e, zero-mul (2 ^ w), mod-lt n (pow-pos w))

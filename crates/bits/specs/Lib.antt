@@ -1,4 +1,5 @@
 -- The definitions of `bits`.
+pub mod Limits
 pub mod Bit
 pub mod Below
 pub mod Counted

@@ -1,6 +1,7 @@
 // The mask of a width, and the reversed word, put together from a table of 256 reversed bytes.
 ghost use mathlib.Core.Path.{_≡_};
 ghost use Prim.Native.Nat.{_+_, _-_, _*_, _/_, _^_, _≤_, _<_};
+ghost use Rattle.bits.specs.Limits.{widthLimit};
 ghost use Rattle.bits.specs.Reversed.{reversed, reversedBytes};
 ghost use Rattle.bits.specs.Four.{reversedWords};
 use reversed_bytes::REVERSED;
@@ -10,7 +11,7 @@ mod reversed_bytes; // reversed_bytes.rt: the table
 
 // Ones below the width. A shift to the right, since a shift to the left by 32 is none of u32's.
 pub fn width_mask(w: u32) -> u32
-    requires { ⌜ (1 ≤ w) × (w ≤ 32) ⌝ }
+    requires { ⌜ (1 ≤ w) × (w ≤ widthLimit) ⌝ }
     ensures { λ r. ⌜ r ≡ 2 ^ w - 1 ⌝ }
 {
     u32::MAX >> (32 - w)

@@ -14,7 +14,8 @@ use Rattle.vectors.specs.Row.{WellFormed}
 use Rattle.operations.specs.Limits.{recordWords}
 use Rattle.operations.specs.Kinds.{isKind}
 use Rattle.operations.specs.Record.{kindWord, targetWord, firstWord, secondWord, parameterWord, kindIn, widthAt, rowsNamed, misused, widthsFit}
-use Rattle.checks.specs.Limits.{widthLimit, rowLimit, recordLimit}
+use Rattle.bits.specs.Limits.{widthLimit}
+use Rattle.checks.specs.Limits.{rowLimit, recordLimit}
 use Rattle.checks.specs.Table.{rowAt, Table, startOf, recordCount, recordOf}
 
 pub record RowPassed (t : Table) (i : ℕ) : Type 0 where

@@ -17,7 +17,8 @@ use lib.ListN.{length, getD}
 use lib.Bits.{bitAnd}
 use Rattle.operations.specs.Limits.{recordWords}
 use Rattle.operations.specs.Record.{Fault, fault, widthAt, recordFaults, lockFault}
-use Rattle.checks.specs.Limits.{widthLimit, rowLimit, recordLimit}
+use Rattle.bits.specs.Limits.{widthLimit}
+use Rattle.checks.specs.Limits.{rowLimit, recordLimit}
 use Rattle.checks.specs.Check.{Check, placed, rising}
 use Rattle.checks.specs.Table.{Table, recordCount, recordOf}
 

@@ -1,10 +1,6 @@
 -- Numbers that 01, "Vectors and rows" and "Records" set.
---   widthLimit    the greatest width
 --   rowLimit      the most rows of a table;   recordLimit   the most records
 use Prim.Native.Nat.{ℕ}
-
-abbrev pub widthLimit : ℕ
-widthLimit = 32
 
 abbrev pub rowLimit : ℕ
 rowLimit = 256

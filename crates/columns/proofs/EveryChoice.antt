@@ -15,7 +15,8 @@ use Rattle.bits.proofs.Shifts.{bit-low, bit-high, bit-div, bit-mod, bit-mod-abo
 use Rattle.bits.proofs.Words.{or-cases}
 use Rattle.vectors.specs.Row.{row, Covers}
 use Rattle.vectors.proofs.Rows.{covers-part, covered-part}
-use Rattle.columns.specs.Settled.{Formed, ColumnIs, UnknownExactly}
+use Rattle.columns.specs.Formed.{Formed}
+use Rattle.columns.specs.Settled.{ColumnIs, UnknownExactly}
 use Rattle.columns.specs.Choices.{difference, differenceAt}
 use Rattle.columns.proofs.ProductMask.{product-steady}
 use Rattle.columns.proofs.Marked.{difference-clear, differing-unknown}

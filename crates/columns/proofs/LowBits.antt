@@ -16,7 +16,8 @@ use Rattle.bits.proofs.Constants.{bit-ones, bit-ones-above}
 use Rattle.bits.proofs.Shifts.{bit-mod, bit-same-low}
 use Rattle.vectors.specs.Row.{row, WellFormed, Covers}
 use Rattle.vectors.proofs.Rows.{covers-part, covered-part}
-use Rattle.columns.specs.Settled.{productOf, Formed, UnknownExactly}
+use Rattle.columns.specs.Formed.{Formed}
+use Rattle.columns.specs.Settled.{productOf, UnknownExactly}
 use Rattle.columns.proofs.ProductMask.{known-bit, product-steady}
 use Rattle.columns.proofs.Untouched.{lifted}
 

@@ -17,7 +17,8 @@ use Rattle.bits.proofs.Words.{or-cases}
 use Rattle.vectors.specs.Row.{row}
 use Rattle.vectors.proofs.Rows.{covers-value, covers-part}
 use Rattle.vectors.proofs.Joins.{differ-cases}
-use Rattle.columns.specs.Settled.{productOf, Formed, ColumnIs, Marks, AllUnknown}
+use Rattle.columns.specs.Formed.{Formed}
+use Rattle.columns.specs.Settled.{productOf, ColumnIs, Marks, AllUnknown}
 use Rattle.columns.specs.Choices.{Covered, difference, Witness}
 use Rattle.columns.proofs.ProductMask.{product-varies}
 

@@ -1,3 +1,4 @@
 -- The definitions of `columns`.
+pub mod Formed
 pub mod Settled
 pub mod Choices

@@ -1,8 +1,7 @@
 -- What a word says of the columns of a product (01, "Abstract result": X where two choices of covered operands disagree). Cited by the contracts of
 -- inner functions alone: what `product_bit` and `mul` promise does not lean on them.
 --   productOf w ma va mb vb        the product's vector at width w
---   Formed w ma va mb vb           both operands are well-formed vectors of width w, at most 32
---   ColumnIs w ma va mb vb k b       if column k is below the width, its mask bit is b: 1 for unknown, 0 for known
+--   ColumnIs w ma va mb vb k b     if column k is below the width, its mask bit is b: 1 for unknown, 0 for known
 --   Marks P n                      every column that is set in n has the property P
 --   AllUnknown ma va mb vb n       every column that is set in n is unknown, whatever the width
 --   AllKnown ma va mb vb n         every column that is set in n is known
@@ -13,17 +12,13 @@ use mathlib.Core.Path.{_≡_}
 use mathlib.Core.List.{[], _∷_}
 use Prim.Native.Nat.{ℕ, _≤_, _<_}
 use Rattle.bits.specs.Bit.{bit}
-use Rattle.vectors.specs.Row.{Row, row, WellFormed}
+use Rattle.vectors.specs.Row.{Row, row}
 use Rattle.operations.specs.Arithmetic.{opMul}
 use Rattle.operations.specs.Result.{resultOf}
+use Rattle.columns.specs.Formed.{Formed}
 
 abbrev pub productOf : ℕ → ℕ → ℕ → ℕ → ℕ → Row
 productOf w ma va mb vb = resultOf opMul w 0 (row w ma va ∷ row w mb vb ∷ [])
-
-pub record Formed (w ma va mb vb : ℕ) : Type 0 where
-  pub most : w ≤ 32
-  pub first : WellFormed (row w ma va)
-  pub second : WellFormed (row w mb vb)
 
 abbrev pub ColumnIs : ℕ → ℕ → ℕ → ℕ → ℕ → ℕ → ℕ → Type 0
 ColumnIs w ma va mb vb k b = k < w → bit (productOf w ma va mb vb .mask) k ≡ b

@@ -3,7 +3,8 @@ ghost use Prim.Native.Nat.{ℕ, _+_, _-_, _^_, _≤_, _<_};
 ghost use mathlib.Core.Path.{_≡_};
 ghost use lib.Bits.{bitAnd};
 ghost use lib.Count.{onesIn};
-ghost use Rattle.columns.specs.Settled.{productOf, Formed};
+ghost use Rattle.columns.specs.Formed.{Formed};
+ghost use Rattle.columns.specs.Settled.{productOf};
 use crate::choices::by_every_choice;
 
 // So many unknown bits of both operands together may stand below the cut.

@@ -3,34 +3,24 @@
 --   name-known, name-number   the name of a known kind is a name, and that kind's
 --   name-back         the kind that a name finds has that name
 --   clean             no byte of a word is a separator;   name-clean   a name is clean
-use mathlib.Core.Path.{_≡_, refl, sym, ap, _∙_}
-use mathlib.Core.Bool.{Bool, true, false, cond, _&&_, _||_}
+use mathlib.Core.Path.{_≡_, sym, ap, _∙_}
+use mathlib.Core.Bool.{Bool, _&&_}
 use mathlib.Core.Logic.{inl, inr}
 use mathlib.Core.List.{List, [], _∷_}
 use Prim.Native.Nat.{ℕ}
 use lib.Dec.{T, ltb, eqb, eqb→eq}
 use Rattle.bits.proofs.Bools.{T-left, T-right}
 use Rattle.operations.specs.Kind.{Kind}
-use Rattle.operations.specs.Kinds.{kinds, numbered, find, isKind, kindOf}
+use Rattle.operations.specs.Kinds.{kinds, isKind, kindOf}
+use Rattle.operations.proofs.Lookup.{each-kind}
 use Rattle.grammar.specs.Lists.{allOf, same}
 use Rattle.grammar.specs.Line.{isName, numberNamed}
-use Rattle.grammar.proofs.Tests.{decide, or-right, when-true, when-false, same→eq}
+use Rattle.grammar.proofs.Tests.{allOf-all, decide, or-right, when-true, when-false, same→eq}
 
 -- ---- a kind found in a list
 
-found : (p : Kind → Bool) (n : ℕ) (ks : List Kind) → T (numbered n ks) → T (allOf p ks) → T (p (find n ks)) × (find n ks .number ≡ n)
-unfolding allOf
-found p n [] t u = absurd t
-found p n (k ∷ ks) t u = go (eqb (k .number) n) refl t (λ v. found p n ks v (T-right (p k) (allOf p ks) u))
-  where
-    go : (b : Bool) → eqb (k .number) n ≡ b → T (b || numbered n ks) → (T (numbered n ks) → T (p (find n ks)) × (find n ks .number ≡ n))
-        → T (p (cond b k (find n ks))) × (cond b k (find n ks) .number ≡ n)
-    go true e v r = (T-left (p k) (allOf p ks) u, eqb→eq (k .number) n (rw e tt))
-    go false e v r = r v
-
 pub kind-passes : (p : Kind → Bool) → T (allOf p kinds) → (n : ℕ) → T (isKind n) → T (p (kindOf n)) × (kindOf n .number ≡ n)
-unfolding isKind kindOf
-kind-passes p u n t = found p n kinds t u
+kind-passes p u n t = each-kind (λ k. T (p k)) (allOf-all p kinds u) n t
 
 -- the kind that a name finds, with a test that all kinds pass
 pub record FoundByName (p : Kind → Bool) (f : List ℕ) (ks : List Kind) : Type 0 where

@@ -10,7 +10,7 @@ use lib.Dec.{T, leb, leb→le, le→leb}
 use lib.ListN.{length}
 use Rattle.bits.proofs.Bools.{T-left, T-right, T-and}
 use Rattle.vectors.specs.Row.{WellFormed}
-use Rattle.checks.specs.Limits.{widthLimit}
+use Rattle.bits.specs.Limits.{widthLimit}
 use Rattle.grammar.specs.Lists.{allOf}
 use Rattle.grammar.specs.Words.{threeLetters}
 use Rattle.grammar.specs.Print.{lettersOf, LineRow}

@@ -16,7 +16,7 @@ use lib.ListN.{length}
 use Rattle.bits.specs.Bit.{digit}
 use Rattle.vectors.specs.Row.{Row, row}
 use Rattle.operations.specs.Kind.{Kind}
-use Rattle.checks.specs.Limits.{widthLimit}
+use Rattle.bits.specs.Limits.{widthLimit}
 use Rattle.grammar.specs.Limits.{numberLimit}
 use Rattle.grammar.specs.Lists.{allOf, isIn, same}
 use Rattle.grammar.specs.Words.{rowWord, opWord, openWord, lockedWord, zeroByte, Alphabet, Edition}

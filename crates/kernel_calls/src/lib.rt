@@ -3,6 +3,7 @@
 ghost use mathlib.Core.Path.{_≡_};
 ghost use mathlib.Core.List.{[], _∷_};
 ghost use Prim.Native.Nat.{_≤_};
+ghost use Rattle.bits.specs.Limits.{widthLimit};
 ghost use Rattle.vectors.specs.Row.{row};
 ghost use Rattle.operations.specs.Arithmetic.{opAdd, opMul};
 ghost use Rattle.operations.specs.Result.{resultOf, Ready};
@@ -17,7 +18,7 @@ pub struct Planes {
 // `products::mul`.
 #[no_mangle]
 pub extern "C" fn kernel_mul(w: u32, ma: u32, va: u32, mb: u32, vb: u32) -> Planes
-    requires { ⌜ (w ≤ 32) × Ready opMul w 0 (row w ma va ∷ row w mb vb ∷ []) ⌝ }
+    requires { ⌜ (w ≤ widthLimit) × Ready opMul w 0 (row w ma va ∷ row w mb vb ∷ []) ⌝ }
     ensures { λ r. ⌜ row w (r .mask) (r .value) ≡ resultOf opMul w 0 (row w ma va ∷ row w mb vb ∷ []) ⌝ }
 {
     let r = products::mul(w, ma, va, mb, vb);
@@ -30,7 +31,7 @@ pub extern "C" fn kernel_mul(w: u32, ma: u32, va: u32, mb: u32, vb: u32) -> Plan
 // `sums::add`.
 #[no_mangle]
 pub extern "C" fn kernel_add(w: u32, ma: u32, va: u32, mb: u32, vb: u32) -> Planes
-    requires { ⌜ (w ≤ 32) × Ready opAdd w 0 (row w ma va ∷ row w mb vb ∷ []) ⌝ }
+    requires { ⌜ (w ≤ widthLimit) × Ready opAdd w 0 (row w ma va ∷ row w mb vb ∷ []) ⌝ }
     ensures { λ r. ⌜ row w (r .mask) (r .value) ≡ resultOf opAdd w 0 (row w ma va ∷ row w mb vb ∷ []) ⌝ }
 {
     let r = sums::add(w, ma, va, mb, vb);

@@ -7,6 +7,7 @@ use vectors::Vector;
 ghost use mathlib.Core.Path.{_≡_};
 ghost use Prim.Native.Nat.{_≤_};
 ghost use lib.Dec.{T};
+ghost use Rattle.bits.specs.Limits.{widthLimit};
 ghost use Rattle.vectors.specs.Row.{row};
 ghost use Rattle.operations.specs.Kinds.{isKind, kindOf};
 ghost use Rattle.operations.specs.Result.{resultOf, Ready};
@@ -27,7 +28,7 @@ pub fn apply(
     vc: u32,
     p: u32,
 ) -> Vector
-    requires { ⌜ T (isKind kind) × (wt ≤ 32) × (wa ≤ 32) × Ready (kindOf kind) wt p (operands (kindOf kind) (row wa ma va) (row wb mb vb) (row 1 mc vc)) ⌝ }
+    requires { ⌜ T (isKind kind) × (wt ≤ widthLimit) × (wa ≤ widthLimit) × Ready (kindOf kind) wt p (operands (kindOf kind) (row wa ma va) (row wb mb vb) (row 1 mc vc)) ⌝ }
     ensures { λ r. ⌜ row wt (r .mask) (r .value) ≡ resultOf (kindOf kind) wt p (operands (kindOf kind) (row wa ma va) (row wb mb vb) (row 1 mc vc)) ⌝ }
 {
     match kind {

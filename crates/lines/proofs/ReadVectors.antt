@@ -16,7 +16,7 @@ use borrow.Author.Tests.{eq-eqb, ne-eqb}
 use Rattle.bits.specs.Bit.{digit}
 use Rattle.bits.proofs.Bits.{digit-lt}
 use Rattle.vectors.specs.Row.{row}
-use Rattle.checks.specs.Limits.{widthLimit}
+use Rattle.bits.specs.Limits.{widthLimit}
 use Rattle.grammar.specs.Lists.{allOf}
 use Rattle.grammar.specs.Words.{letter0, letter1, letterX, threeLetters}
 use Rattle.grammar.specs.Line.{numeral, maskBit, valueBit, isLetter, isVector, vectorOf}

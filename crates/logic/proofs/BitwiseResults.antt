@@ -13,7 +13,7 @@ use Rattle.vectors.specs.Row.{row}
 use Rattle.operations.specs.Bitwise.{opNot, opAnd, opOr, opXor}
 use Rattle.operations.specs.Result.{resultOf, Ready}
 use Rattle.bits.proofs.Words.{bit-clear}
-use Rattle.logic.proofs.Operands.{chosen-at}
+use Rattle.vectors.proofs.Operands.{chosen-at}
 use Rattle.logic.proofs.Bitwise.{bitsAt-getD, bitwise-best}
 use Rattle.logic.proofs.Letters.{letter, not-table, and-table, or-table, xor-table, two-rows}
 

@@ -18,7 +18,7 @@ use Rattle.vectors.proofs.BestLaws.{known-covers}
 use Rattle.operations.specs.Arithmetic.{opIte}
 use Rattle.operations.specs.Result.{resultOf, Ready}
 use Rattle.logic.proofs.Bitwise.{bit-one}
-use Rattle.logic.proofs.Operands.{noRow, chosen-at}
+use Rattle.vectors.proofs.Operands.{noRow, chosen-at}
 
 module _ (w ma va mb vb mc vc : ℕ) (R : Ready opIte w 0 (row w ma va ∷ row w mb vb ∷ row 1 mc vc ∷ [])) where
   rows : List Row

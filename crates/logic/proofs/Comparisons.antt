@@ -11,7 +11,7 @@ use Rattle.vectors.specs.Row.{row}
 use Rattle.vectors.proofs.BestLaws.{best-ext}
 use Rattle.operations.specs.Arithmetic.{opEq, opUlt, opSlt}
 use Rattle.operations.specs.Result.{resultOf, Ready}
-use Rattle.logic.proofs.Operands.{chosen-at}
+use Rattle.vectors.proofs.Operands.{chosen-at}
 use Rattle.logic.proofs.Tests.{Tested}
 use Rattle.logic.proofs.Equality.{clash, loose, equality-best}
 use Rattle.logic.proofs.Orders.{less, unsigned, orders-best}

@@ -1,5 +1,4 @@
 -- The laws and proofs of `logic`.
-pub mod Operands
 pub mod Readies
 -- Bit by bit: not, and, or, xor
 pub mod Bitwise

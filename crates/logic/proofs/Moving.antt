@@ -23,7 +23,7 @@ use Rattle.operations.specs.Kind.{Kind}
 use Rattle.operations.specs.Kinds.{kinds, opNone}
 use Rattle.operations.specs.Result.{Below, widthsOf, resultOf, Ready}
 use Rattle.operations.proofs.Bounded.{Bounded, all-bounded}
-use Rattle.logic.proofs.Operands.{noRow, formed-at, chosen-at, choose-at, below-chosen}
+use Rattle.vectors.proofs.Operands.{noRow, formed-at, chosen-at, choose-at, below-chosen}
 
 pub record From (f : List ℕ → ℕ) (ws : List ℕ) (k : ℕ) : Type 0 where
   pub operand : ℕ

@@ -13,7 +13,7 @@ use Rattle.bits.specs.Bit.{digit}
 use Rattle.vectors.specs.Row.{Row, row, WellFormed, Covers}
 use Rattle.vectors.specs.Best.{best}
 use Rattle.vectors.proofs.Rows.{top, covers-value, covers-top, value-least, top-greatest}
-use Rattle.logic.proofs.Operands.{chosen-at}
+use Rattle.vectors.proofs.Operands.{chosen-at}
 use Rattle.logic.proofs.Tests.{Tells, Tested, tests-best}
 
 -- a covered number, with its key

@@ -5,6 +5,7 @@ ghost use mathlib.Core.Bool.{not, _&&_};
 ghost use mathlib.Core.List.{[], _∷_};
 ghost use Prim.Native.Nat.{_-_, _^_, _≤_};
 ghost use lib.Bits.{bitAnd, bitXor};
+ghost use Rattle.bits.specs.Limits.{widthLimit};
 ghost use Rattle.bits.specs.Bit.{digit};
 ghost use Rattle.vectors.specs.Row.{row};
 ghost use Rattle.operations.specs.Result.{resultOf, Ready};
@@ -25,7 +26,7 @@ fn tested(fails: bool, holds: bool) -> Vector
 
 // They may differ if a bit is unknown in one or differs, and may be equal if no bit known in both differs.
 pub fn eq(w: u32, ma: u32, va: u32, mb: u32, vb: u32) -> Vector
-    requires { ⌜ (w ≤ 32) × Ready opEq 1 0 (row w ma va ∷ row w mb vb ∷ []) ⌝ }
+    requires { ⌜ (w ≤ widthLimit) × Ready opEq 1 0 (row w ma va ∷ row w mb vb ∷ []) ⌝ }
     ensures { λ r. ⌜ row 1 (r .mask) (r .value) ≡ resultOf opEq 1 0 (row w ma va ∷ row w mb vb ∷ []) ⌝ }
 {
     let unknown = ma | mb;
@@ -35,7 +36,7 @@ pub fn eq(w: u32, ma: u32, va: u32, mb: u32, vb: u32) -> Vector
 
 // It may fail if b's least is at most a's greatest, and may hold if a's least is below b's greatest.
 pub fn ult(w: u32, ma: u32, va: u32, mb: u32, vb: u32) -> Vector
-    requires { ⌜ (w ≤ 32) × Ready opUlt 1 0 (row w ma va ∷ row w mb vb ∷ []) ⌝ }
+    requires { ⌜ (w ≤ widthLimit) × Ready opUlt 1 0 (row w ma va ∷ row w mb vb ∷ []) ⌝ }
     ensures { λ r. ⌜ row 1 (r .mask) (r .value) ≡ resultOf opUlt 1 0 (row w ma va ∷ row w mb vb ∷ []) ⌝ }
 {
     tested(vb <= (va | ma), va < (vb | mb))
@@ -43,7 +44,7 @@ pub fn ult(w: u32, ma: u32, va: u32, mb: u32, vb: u32) -> Vector
 
 // The value with its top bit flipped where it is known: numbers whose top bits are flipped are ordered as unsigned ones.
 fn flipped(w: u32, m: u32, v: u32) -> u32
-    requires { ⌜ (1 ≤ w) × (w ≤ 32) ⌝ }
+    requires { ⌜ (1 ≤ w) × (w ≤ widthLimit) ⌝ }
     ensures { λ r. ⌜ r ≡ bitXor v (bitAnd (2 ^ (w - 1)) (2 ^ 32 - 1 - m)) ⌝ }
 {
     v ^ ((1 << (w - 1)) & !m)
@@ -51,7 +52,7 @@ fn flipped(w: u32, m: u32, v: u32) -> u32
 
 // As ult, by the least and greatest keys: la is a's least, la | ma its greatest.
 pub fn slt(w: u32, ma: u32, va: u32, mb: u32, vb: u32) -> Vector
-    requires { ⌜ (w ≤ 32) × Ready opSlt 1 0 (row w ma va ∷ row w mb vb ∷ []) ⌝ }
+    requires { ⌜ (w ≤ widthLimit) × Ready opSlt 1 0 (row w ma va ∷ row w mb vb ∷ []) ⌝ }
     ensures { λ r. ⌜ row 1 (r .mask) (r .value) ≡ resultOf opSlt 1 0 (row w ma va ∷ row w mb vb ∷ []) ⌝ }
 {
     let la = flipped(w, ma, va);

@@ -5,13 +5,14 @@ use vectors::Vector;
 ghost use mathlib.Core.Path.{_≡_};
 ghost use mathlib.Core.List.{[], _∷_};
 ghost use Prim.Native.Nat.{_^_, _≤_, _<_};
+ghost use Rattle.bits.specs.Limits.{widthLimit};
 ghost use Rattle.vectors.specs.Row.{row};
 ghost use Rattle.operations.specs.Result.{resultOf, Ready};
 ghost use Rattle.operations.specs.Bitwise.{opCopy};
 ghost use Rattle.operations.specs.Moves.{opShl, opLshr, opAshr, opRotl, opExtract, opConcat, opZext, opSext};
 
 pub fn copy(w: u32, ma: u32, va: u32) -> Vector
-    requires { ⌜ (w ≤ 32) × Ready opCopy w 0 (row w ma va ∷ []) ⌝ }
+    requires { ⌜ (w ≤ widthLimit) × Ready opCopy w 0 (row w ma va ∷ []) ⌝ }
     ensures { λ r. ⌜ row w (r .mask) (r .value) ≡ resultOf opCopy w 0 (row w ma va ∷ []) ⌝ }
 {
     Vector {
@@ -21,14 +22,14 @@ pub fn copy(w: u32, ma: u32, va: u32) -> Vector
 }
 
 fn shl_plane(w: u32, x: u32, p: u32) -> u32
-    requires { ⌜ (1 ≤ w) × (w ≤ 32) × (p < 32) ⌝ }
+    requires { ⌜ (1 ≤ w) × (w ≤ widthLimit) × (p < 32) ⌝ }
     ensures { λ r. ⌜ r ≡ opShl .plain w (w ∷ []) p (x ∷ []) ⌝ }
 {
     (x << p) & width_mask(w)
 }
 
 pub fn shl(w: u32, ma: u32, va: u32, p: u32) -> Vector
-    requires { ⌜ (w ≤ 32) × Ready opShl w p (row w ma va ∷ []) ⌝ }
+    requires { ⌜ (w ≤ widthLimit) × Ready opShl w p (row w ma va ∷ []) ⌝ }
     ensures { λ r. ⌜ row w (r .mask) (r .value) ≡ resultOf opShl w p (row w ma va ∷ []) ⌝ }
 {
     Vector {
@@ -38,7 +39,7 @@ pub fn shl(w: u32, ma: u32, va: u32, p: u32) -> Vector
 }
 
 pub fn lshr(w: u32, ma: u32, va: u32, p: u32) -> Vector
-    requires { ⌜ (w ≤ 32) × Ready opLshr w p (row w ma va ∷ []) ⌝ }
+    requires { ⌜ (w ≤ widthLimit) × Ready opLshr w p (row w ma va ∷ []) ⌝ }
     ensures { λ r. ⌜ row w (r .mask) (r .value) ≡ resultOf opLshr w p (row w ma va ∷ []) ⌝ }
 {
     Vector {
@@ -49,7 +50,7 @@ pub fn lshr(w: u32, ma: u32, va: u32, p: u32) -> Vector
 
 // Copies of the top bit of x, which is bit wa - 1, above it.
 fn sext_plane(wt: u32, wa: u32, x: u32) -> u32
-    requires { ⌜ (1 ≤ wa) × (wa ≤ wt) × (wt ≤ 32) × (x < 2 ^ wa) ⌝ }
+    requires { ⌜ (1 ≤ wa) × (wa ≤ wt) × (wt ≤ widthLimit) × (x < 2 ^ wa) ⌝ }
     ensures { λ r. ⌜ r ≡ opSext .plain wt (wa ∷ []) 0 (x ∷ []) ⌝ }
 {
     if x >> (wa - 1) == 0 {
@@ -60,7 +61,7 @@ fn sext_plane(wt: u32, wa: u32, x: u32) -> u32
 
 // A shift by w or more gives copies of the top bit, as a shift by w - 1 does.
 fn ashr_plane(w: u32, x: u32, p: u32) -> u32
-    requires { ⌜ (1 ≤ w) × (w ≤ 32) × (x < 2 ^ w) ⌝ }
+    requires { ⌜ (1 ≤ w) × (w ≤ widthLimit) × (x < 2 ^ w) ⌝ }
     ensures { λ r. ⌜ r ≡ opAshr .plain w (w ∷ []) p (x ∷ []) ⌝ }
 {
     if p < w {
@@ -70,7 +71,7 @@ fn ashr_plane(w: u32, x: u32, p: u32) -> u32
 }
 
 pub fn ashr(w: u32, ma: u32, va: u32, p: u32) -> Vector
-    requires { ⌜ (w ≤ 32) × Ready opAshr w p (row w ma va ∷ []) ⌝ }
+    requires { ⌜ (w ≤ widthLimit) × Ready opAshr w p (row w ma va ∷ []) ⌝ }
     ensures { λ r. ⌜ row w (r .mask) (r .value) ≡ resultOf opAshr w p (row w ma va ∷ []) ⌝ }
 {
     Vector {
@@ -81,7 +82,7 @@ pub fn ashr(w: u32, ma: u32, va: u32, p: u32) -> Vector
 
 // The bits that leave at the top come in at the bottom. w - q may be 32, so that shift is made in two.
 fn rotl_plane(w: u32, x: u32, p: u32) -> u32
-    requires { ⌜ (1 ≤ w) × (w ≤ 32) × (x < 2 ^ w) ⌝ }
+    requires { ⌜ (1 ≤ w) × (w ≤ widthLimit) × (x < 2 ^ w) ⌝ }
     ensures { λ r. ⌜ r ≡ opRotl .plain w (w ∷ []) p (x ∷ []) ⌝ }
 {
     let q = p % w;
@@ -89,7 +90,7 @@ fn rotl_plane(w: u32, x: u32, p: u32) -> u32
 }
 
 pub fn rotl(w: u32, ma: u32, va: u32, p: u32) -> Vector
-    requires { ⌜ (w ≤ 32) × Ready opRotl w p (row w ma va ∷ []) ⌝ }
+    requires { ⌜ (w ≤ widthLimit) × Ready opRotl w p (row w ma va ∷ []) ⌝ }
     ensures { λ r. ⌜ row w (r .mask) (r .value) ≡ resultOf opRotl w p (row w ma va ∷ []) ⌝ }
 {
     Vector {
@@ -99,14 +100,14 @@ pub fn rotl(w: u32, ma: u32, va: u32, p: u32) -> Vector
 }
 
 fn extract_plane(wt: u32, wa: u32, x: u32, p: u32) -> u32
-    requires { ⌜ (1 ≤ wt) × (wt ≤ 32) × (p < 32) ⌝ }
+    requires { ⌜ (1 ≤ wt) × (wt ≤ widthLimit) × (p < 32) ⌝ }
     ensures { λ r. ⌜ r ≡ opExtract .plain wt (wa ∷ []) p (x ∷ []) ⌝ }
 {
     (x >> p) & width_mask(wt)
 }
 
 pub fn extract(wt: u32, wa: u32, ma: u32, va: u32, p: u32) -> Vector
-    requires { ⌜ (wa ≤ 32) × Ready opExtract wt p (row wa ma va ∷ []) ⌝ }
+    requires { ⌜ (wa ≤ widthLimit) × Ready opExtract wt p (row wa ma va ∷ []) ⌝ }
     ensures { λ r. ⌜ row wt (r .mask) (r .value) ≡ resultOf opExtract wt p (row wa ma va ∷ []) ⌝ }
 {
     Vector {
@@ -117,7 +118,7 @@ pub fn extract(wt: u32, wa: u32, ma: u32, va: u32, p: u32) -> Vector
 
 // a is the high part, b the low one.
 pub fn concat(wt: u32, wa: u32, wb: u32, ma: u32, va: u32, mb: u32, vb: u32) -> Vector
-    requires { ⌜ (wt ≤ 32) × Ready opConcat wt 0 (row wa ma va ∷ row wb mb vb ∷ []) ⌝ }
+    requires { ⌜ (wt ≤ widthLimit) × Ready opConcat wt 0 (row wa ma va ∷ row wb mb vb ∷ []) ⌝ }
     ensures { λ r. ⌜ row wt (r .mask) (r .value) ≡ resultOf opConcat wt 0 (row wa ma va ∷ row wb mb vb ∷ []) ⌝ }
 {
     Vector {
@@ -127,7 +128,7 @@ pub fn concat(wt: u32, wa: u32, wb: u32, ma: u32, va: u32, mb: u32, vb: u32) -> 
 }
 
 pub fn zext(wt: u32, wa: u32, ma: u32, va: u32) -> Vector
-    requires { ⌜ (wt ≤ 32) × Ready opZext wt 0 (row wa ma va ∷ []) ⌝ }
+    requires { ⌜ (wt ≤ widthLimit) × Ready opZext wt 0 (row wa ma va ∷ []) ⌝ }
     ensures { λ r. ⌜ row wt (r .mask) (r .value) ≡ resultOf opZext wt 0 (row wa ma va ∷ []) ⌝ }
 {
     Vector {
@@ -137,7 +138,7 @@ pub fn zext(wt: u32, wa: u32, ma: u32, va: u32) -> Vector
 }
 
 pub fn sext(wt: u32, wa: u32, ma: u32, va: u32) -> Vector
-    requires { ⌜ (wt ≤ 32) × Ready opSext wt 0 (row wa ma va ∷ []) ⌝ }
+    requires { ⌜ (wt ≤ widthLimit) × Ready opSext wt 0 (row wa ma va ∷ []) ⌝ }
     ensures { λ r. ⌜ row wt (r .mask) (r .value) ≡ resultOf opSext wt 0 (row wa ma va ∷ []) ⌝ }
 {
     Vector {

@@ -6,7 +6,7 @@ use mathlib.Core.List.{List, [], _∷_}
 use Prim.Native.Nat.{ℕ, zero, suc, _+_, _-_, _*_, _/_, _%_, _^_, _<_}
 use native.Mathlib.Nat.{mod-lt, lt-of-lt-of-le, lt-of-le-of-lt}
 use native.Mathlib.Omega.{arith}
-use lib.Dec.{T, leb, ltb, eqb, eqb→eq, leb→le}
+use lib.Dec.{T, ltb, eqb, eqb→eq, leb→le}
 use lib.ListN.{getD}
 use lib.Bits.{and-lt, or-lt, xor-lt}
 use lib.Pow.{pow-pos, pow-mono, pow-add, shr-le, ones-sub-lt}
@@ -19,7 +19,8 @@ use Rattle.operations.specs.Kind.{asks, Kind, first, second, third}
 use Rattle.operations.specs.Bitwise.{opCopy, opNot, opAnd, opOr, opXor}
 use Rattle.operations.specs.Moves.{opShl, opLshr, opAshr, opRotl, opExtract, opConcat, opZext, opSext}
 use Rattle.operations.specs.Arithmetic.{opAdd, opSub, opNeg, opMul, opEq, opUlt, opSlt, opIte}
-use Rattle.operations.specs.Kinds.{kinds, find, kindOf}
+use Rattle.operations.specs.Kinds.{kinds, kindOf}
+use Rattle.operations.proofs.Lookup.{any-kind}
 use Rattle.operations.specs.Result.{Below}
 
 abbrev pub Bounded : Kind → Type 0
@@ -152,15 +153,6 @@ pub all-bounded : All Bounded kinds
 unfolding kinds
 all-bounded = (copy-bounded, (not-bounded, (and-bounded, (or-bounded, (xor-bounded, (shl-bounded, (lshr-bounded, (ashr-bounded, (rotl-bounded, (extract-bounded, (concat-bounded, (zext-bounded, (sext-bounded, (add-bounded, (sub-bounded, (neg-bounded, (mul-bounded, (eq-bounded, (ult-bounded, (slt-bounded, (ite-bounded, tt)))))))))))))))))))))
 
-find-bounded : (n : ℕ) (ks : List Kind) → All Bounded ks → Bounded (find n ks)
-find-bounded n [] e = λ wt p ws ns t c. pow-pos wt
-find-bounded n (k ∷ ks) e = choose (eqb (k .number) n) (e .0) (find-bounded n ks (e .1))
-  where
-    choose : (b : Bool) → Bounded k → Bounded (find n ks) → Bounded (cond b k (find n ks))
-    choose true x y = x
-    choose false x y = y
-
 -- the kind that a record's word names
 pub kind-bounded : (n : ℕ) → Bounded (kindOf n)
-unfolding kindOf
-kind-bounded n = find-bounded n kinds all-bounded
+kind-bounded n = any-kind Bounded all-bounded (λ wt p ws ns t c. pow-pos wt) n

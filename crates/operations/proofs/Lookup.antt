@@ -1,6 +1,7 @@
 -- Finding a kind by its number: what holds of every kind holds of the one found. Assumes nothing.
-use mathlib.Core.Path.{_≡_, refl, subst}
+use mathlib.Core.Path.{_≡_, refl, sym, subst}
 use mathlib.Core.Bool.{Bool, true, false, cond, _&&_, _||_}
+use mathlib.Core.Logic.{_⊎_, inl, inr}
 use mathlib.Core.List.{List, [], _∷_}
 use Prim.Native.Nat.{ℕ, suc, _<_}
 use native.Mathlib.Omega.{arith}
@@ -12,26 +13,27 @@ use Rattle.bits.proofs.Below.{allBelow-elim}
 use Rattle.bits.proofs.Bools.{T-left, T-right}
 use Rattle.vectors.specs.Lists.{All}
 use Rattle.operations.specs.Kind.{Kind}
-use Rattle.operations.specs.Kinds.{kinds, kindCount, numbered, find, isKind, kindOf}
+use Rattle.operations.specs.Kinds.{kinds, kindCount, opNone, numbered, find, isKind, kindOf}
 
-found : (P : Kind → Type 0) (n : ℕ) (ks : List Kind) → All P ks → T (numbered n ks) → P (find n ks) × (find n ks .number ≡ n)
-found P n [] e t = absurd t
-found P n (k ∷ ks) e t = go (eqb (k .number) n) (eqb→eq (k .number) n) t (found P n ks (e .1))
+-- the kind found is one of the list and has the number looked for, or it is none
+found : (P : Kind → Type 0) (n : ℕ) (ks : List Kind) → All P ks → (P (find n ks) × (find n ks .number ≡ n)) ⊎ ((T (numbered n ks) → ⊥) × (find n ks ≡ opNone))
+found P n [] e = inr (λ t. t, refl)
+found P n (k ∷ ks) e = go (eqb (k .number) n) (eqb→eq (k .number) n) (found P n ks (e .1))
   where
-    go : (b : Bool) → (T b → k .number ≡ n) → T (b || numbered n ks) → (T (numbered n ks) → P (find n ks) × (find n ks .number ≡ n))
-        → P (cond b k (find n ks)) × (cond b k (find n ks) .number ≡ n)
-    go true f u g = (e .0, f tt)
-    go false f u g = g u
+    go : (b : Bool) → (T b → k .number ≡ n) → (P (find n ks) × (find n ks .number ≡ n)) ⊎ ((T (numbered n ks) → ⊥) × (find n ks ≡ opNone))
+        → (P (cond b k (find n ks)) × (cond b k (find n ks) .number ≡ n)) ⊎ ((T (b || numbered n ks) → ⊥) × (cond b k (find n ks) ≡ opNone))
+    go true f r = inl (e .0, f tt)
+    go false f r = r
 
--- what holds of every kind holds of the kind that has a number
-pub each-kind : (P : Kind → Type 0) → All P kinds → (n : ℕ) → T (isKind n) → P (kindOf n)
+-- what holds of every kind holds of the kind that has a number, and that one has it
+pub each-kind : (P : Kind → Type 0) → All P kinds → (n : ℕ) → T (isKind n) → P (kindOf n) × (kindOf n .number ≡ n)
 unfolding isKind kindOf
-each-kind P e n t = found P n kinds e t .0
+each-kind P e n t = elim (found P n kinds e) [ inl x ↦ x | inr y ↦ absurd (y .0 t) ]
 
--- the kind found has the number looked for
-pub kind-number : (P : Kind → Type 0) → All P kinds → (n : ℕ) → T (isKind n) → kindOf n .number ≡ n
-unfolding isKind kindOf
-kind-number P e n t = found P n kinds e t .1
+-- what holds of every kind, and of none, holds of what any number finds
+pub any-kind : (P : Kind → Type 0) → All P kinds → P opNone → (n : ℕ) → P (kindOf n)
+unfolding kindOf
+any-kind P e z n = elim (found P n kinds e) [ inl x ↦ x .0 | inr y ↦ subst P (sym (y .1)) z ]
 
 -- ---- the numbers of kinds are those below kindCount
 

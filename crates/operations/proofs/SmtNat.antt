@@ -1,5 +1,5 @@
 -- The number of an SMT-LIB bit vector. Assumes nothing.
---   Is w n s                       the vector s has width w and the number n;  Is-self   each vector has its own
+--   Is w n s                       the vector s has width w and the number n
 --   nat-number                     SMT-LIB's sum over the positions is the number that has the positions' bits
 --   Is-below, Is-bit, Is-at, Is-top   what a vector's number says of its positions;  Is-of   the positions make up the number
 --   nat2bv-is, bv-is, made-is      the vector made of any number, as SMT-LIB's nat2bv, of a number that fits, of a result
@@ -17,9 +17,6 @@ use Rattle.operations.specs.Bitvector.{Bitvector, sumTo, nat, bv, top}
 pub record Is (w n : ℕ) (s : Bitvector) : Type 0 where
   pub width-is : s .width ≡ w
   pub number-is : nat s ≡ n
-
-pub Is-self : (s : Bitvector) → Is (s .width) (nat s) s
-Is-self s = record { width-is = refl; number-is = refl }
 
 -- the highest of the positions apart
 number-top : (m : ℕ) (p : ℕ → Bool) → number (suc m) p ≡ digit (p m) * 2 ^ m + number m p

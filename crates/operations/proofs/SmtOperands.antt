@@ -4,7 +4,7 @@
 --   by-operands                      a kind of k operands
 --   by-same, by-both, by-compared    a kind whose operand has, or whose two operands have, the target's width, or are compared
 use mathlib.Core.Path.{_≡_, sym, subst, _∙_}
-use mathlib.Core.Bool.{Bool, _&&_}
+use mathlib.Core.Bool.{_&&_}
 use mathlib.Core.List.{List, [], _∷_}
 use Prim.Native.Nat.{ℕ, zero, suc, _≤_}
 use native.Mathlib.Omega.{arith}

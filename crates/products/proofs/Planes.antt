@@ -15,7 +15,8 @@ use Rattle.bits.proofs.Constants.{bit-complement, bit-ones}
 use Rattle.bits.proofs.Shifts.{bit-mod}
 use Rattle.vectors.specs.declared.OutputBit.{OutputBit}
 use Rattle.vectors.specs.Row.{Row, row}
-use Rattle.columns.specs.Settled.{productOf, Formed}
+use Rattle.columns.specs.Formed.{Formed}
+use Rattle.columns.specs.Settled.{productOf}
 use Rattle.columns.proofs.ProductMask.{product-formed, product-width, product-below, product-value}
 use Rattle.products.specs.OutputBits.{outputBit, outputMask}
 use Rattle.products.proofs.Outputs.{output-unknown, output-known}

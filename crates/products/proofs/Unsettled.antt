@@ -10,17 +10,18 @@ use Prim.Native.Nat.{ℕ, zero, suc, _-_, _*_, _^_, _≤_, _<_, min, max}
 use native.Mathlib.Nat.{one-mul, lt-of-le-of-lt}
 use native.Mathlib.Decide.{decLt, ℕ-discrete}
 use native.Mathlib.Omega.{arith}
-use lib.Bits.{bitAnd, bitOr, or-add-and, or-lt, and-le-l, and-le-r, and-lt}
+use lib.Bits.{bitAnd, bitOr, or-lt, and-le-l, and-lt}
 use lib.Count.{trailingZeros}
 use Rattle.bits.specs.Bit.{bit}
 use Rattle.bits.proofs.Bits.{bit-lt, bit-cases, bit-and, bit-or, bit-above, bit-ext, bit-of-zero}
 use Rattle.bits.proofs.Constants.{bit-pow, bit-pow-other, bit-ones, bit-complement}
 use Rattle.bits.proofs.Numbers.{below-of-bits}
-use Rattle.bits.proofs.Words.{bit-clear}
+use Rattle.bits.proofs.Words.{bit-clear, or-zero}
 use Rattle.bits.proofs.LowestBit.{lowest, clear-at, clear-other}
 use Rattle.vectors.specs.Row.{row}
 use Rattle.vectors.proofs.BestLaws.{known-covers}
-use Rattle.columns.specs.Settled.{productOf, Formed, Marks, AllUnknown, AllKnown}
+use Rattle.columns.specs.Formed.{Formed}
+use Rattle.columns.specs.Settled.{productOf, Marks, AllUnknown, AllKnown}
 use Rattle.columns.proofs.ProductMask.{product-steady}
 use Rattle.columns.proofs.Parts.{Part}
 use Rattle.products.specs.Granted.{Granted}
@@ -87,7 +88,7 @@ module _ (ma va mb vb : ℕ) where
   pub granted-word : (n : ℕ) → Marks (Granted ma va mb vb) n → n < 2 ^ 32
   granted-word n M = below-of-bits 32 n (λ k l. elim (bit-cases n k) [
     | inl e ↦ e
-    | inr e ↦ let g = M k e in absurd (omega (arith, g .most, g .below))
+    | inr e ↦ let g = M k e in absurd (omega (arith, g .formed .most, g .below))
   ])
 
   pub granted-part : (n x : ℕ) → Marks (Granted ma va mb vb) n → Marks (Granted ma va mb vb) (bitAnd n x)
@@ -97,10 +98,8 @@ module _ (ma va mb vb : ℕ) where
   granted-below w n F h k e =
       record {
         width = w;
-        most = F .most;
+        formed = F;
         below = elim (decLt k w) [ yes l ↦ l | no l ↦ absurd (omega (arith, bit-above w n k h (omega arith))) ];
-        first = F .first;
-        second = F .second;
       }
 
 -- ---- the columns below a cut and the others
@@ -150,12 +149,9 @@ module _ (w ma va mb vb s n u r : ℕ) (F : Formed w ma va mb vb) (hs : s < 2 ^ 
         ]
       ]
 
-or-none : (m n : ℕ) → bitOr m n ≡ 0 → (m ≡ 0) × (n ≡ 0)
-or-none m n e = let a = or-add-and m n in let b = and-le-l m n in let c = and-le-r m n in (omega arith, omega arith)
-
 pub known-operands : (w ma va mb vb : ℕ) → Formed w ma va mb vb → bitOr ma mb ≡ 0 → (k : ℕ) → k < w → bit 0 k ≡ bit (productOf w ma va mb vb .mask) k
 known-operands w ma va mb vb F e k h =
-    let (p, q) = or-none ma mb e in
+    let (p, q) = or-zero ma mb e in
     bit-of-zero k
     ∙ sym (product-steady w ma va mb vb k h (bit (va * vb) k) (λ a b ca cb.
     ap (λ (n : ℕ). bit (n * b) k) (known-covers (row w ma va) a (F .first) p ca) ∙ ap (λ (n : ℕ). bit (va * n) k) (known-covers (row w mb vb) b (F .second) q cb)))

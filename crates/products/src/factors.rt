@@ -1,6 +1,7 @@
 // The factors at which the column sum is least and greatest (document 002, section 7.2).
 ghost use mathlib.Core.Path.{_≡_};
 ghost use Prim.Native.Nat.{ℕ, _+_, _-_, _≤_, _<_};
+ghost use Rattle.bits.specs.Limits.{widthLimit};
 ghost use Rattle.bits.specs.Reversed.{reversed};
 ghost use Rattle.bits.specs.Four.{reversedWords};
 ghost use Rattle.products.specs.Factors.{andNot, leastBit, greatestBit, extremesOf, withPair, settledBit};
@@ -24,7 +25,7 @@ pub struct Extremes {
 
 // The bits that meet those of the other factor in column k: bit i is bit k - i of x, whose bits `word` has in the other order.
 pub fn partners(word: u32, k: u32) -> u32
-    requires { ⌜ k < 32 ⌝ }
+    requires { ⌜ k < widthLimit ⌝ }
     ensures { λ r. ⌜ ((x : ℕ) → word ≡ reversed 32 x → r ≡ reversed (k + 1) x) ⌝ }
 {
     word >> (31 - k)
@@ -39,7 +40,7 @@ fn and_not(x: u32, y: u32) -> u32
 
 // An unknown bit whose partner is known takes the partner's bit in the least sum, the other one in the greatest.
 pub fn extreme_factors(ma: u32, va: u32, mb: u32, vb: u32, reverses: FourWords, k: u32) -> Extremes
-    requires { ⌜ (k < 32) × (reverses ≡ reversedWords ma va mb vb) ⌝ }
+    requires { ⌜ (k < widthLimit) × (reverses ≡ reversedWords ma va mb vb) ⌝ }
     ensures { λ r. ⌜ r ≡ extremesOf k ma va mb vb ⌝ }
 {
     let a_value = partners(reverses.b, k);
@@ -59,7 +60,7 @@ pub fn extreme_factors(ma: u32, va: u32, mb: u32, vb: u32, reverses: FourWords, 
 
 // The lone pair's two bits in the least sum (equation 28).
 fn least_bit(a: u32, b: u32, i: u32, k: u32) -> u32
-    requires { ⌜ (i ≤ k) × (k < 32) ⌝ }
+    requires { ⌜ (i ≤ k) × (k < widthLimit) ⌝ }
     ensures { λ r. ⌜ (r ≡ leastBit k i a b) × (r < 2) ⌝ }
 {
     if low_row(b, i, k) + low_row(a, k - i, k) <= 1u32 << k {
@@ -70,7 +71,7 @@ fn least_bit(a: u32, b: u32, i: u32, k: u32) -> u32
 
 // The lone pair's first bit in the greatest sum (equation 29).
 fn greatest_bit(a: u32, b: u32, i: u32, k: u32) -> u32
-    requires { ⌜ (i ≤ k) × (k < 32) ⌝ }
+    requires { ⌜ (i ≤ k) × (k < widthLimit) ⌝ }
     ensures { λ r. ⌜ (r ≡ greatestBit k i a b) × (r < 2) ⌝ }
 {
     if low_row(a, k - i, k) <= low_row(b, i, k) {
@@ -81,7 +82,7 @@ fn greatest_bit(a: u32, b: u32, i: u32, k: u32) -> u32
 
 // The bit that the column sums at the extremes settle.
 pub fn settle(x: Extremes, k: u32) -> OutputBit
-    requires { ⌜ k < 32 ⌝ }
+    requires { ⌜ k < widthLimit ⌝ }
     ensures { λ r. ⌜ r ≡ settledBit k x ⌝ }
 {
     let low = column_floor(x.least.a, x.least.b, k);
@@ -91,7 +92,7 @@ pub fn settle(x: Extremes, k: u32) -> OutputBit
 
 // The extremes where one pair, at place i of the first factor, is unknown on both sides.
 pub fn with_pair(x: Extremes, i: u32, k: u32) -> Extremes
-    requires { ⌜ (i ≤ k) × (k < 32) ⌝ }
+    requires { ⌜ (i ≤ k) × (k < widthLimit) ⌝ }
     ensures { λ r. ⌜ r ≡ withPair k i x ⌝ }
 {
     let j = k - i;

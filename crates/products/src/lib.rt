@@ -3,12 +3,14 @@ ghost use mathlib.Core.Path.{_≡_};
 ghost use mathlib.Core.List.{[], _∷_};
 ghost use Prim.Native.Nat.{ℕ, _*_, _≤_, _<_, _^_};
 ghost use lib.Bits.{bitAnd};
+ghost use Rattle.bits.specs.Limits.{widthLimit};
 ghost use Rattle.bits.specs.Bit.{bit};
 ghost use Rattle.bits.specs.Four.{reversedWords};
 ghost use Rattle.vectors.specs.Row.{row, WellFormed};
 ghost use Rattle.operations.specs.Arithmetic.{opMul};
 ghost use Rattle.operations.specs.Result.{resultOf, Ready};
-ghost use Rattle.columns.specs.Settled.{productOf, Formed, Marks};
+ghost use Rattle.columns.specs.Formed.{Formed};
+ghost use Rattle.columns.specs.Settled.{productOf, Marks};
 ghost use Rattle.products.specs.OutputBits.{outputBit, outputMask};
 ghost use Rattle.products.specs.Granted.{Granted};
 use bits::FourWords;
@@ -133,7 +135,7 @@ fn unknown_below(w: u32, ma: u32, va: u32, mb: u32, vb: u32) -> u32
 
 // The product's vector: where no two choices disagree, the bit is that of the values' product.
 pub fn mul(w: u32, ma: u32, va: u32, mb: u32, vb: u32) -> Vector
-    requires { ⌜ (w ≤ 32) × Ready opMul w 0 (row w ma va ∷ row w mb vb ∷ []) ⌝ }
+    requires { ⌜ (w ≤ widthLimit) × Ready opMul w 0 (row w ma va ∷ row w mb vb ∷ []) ⌝ }
     ensures { λ r. ⌜ row w (r .mask) (r .value) ≡ resultOf opMul w 0 (row w ma va ∷ row w mb vb ∷ []) ⌝ }
 {
     if ma | mb == 0 {

@@ -1,29 +1,20 @@
 -- add, sub and neg are sums of two terms and a carry: a + b, a + (2 ^ w - 1 - b) + 1 and 0 + (2 ^ w - 1 - a) + 1, modulo 2 ^ w. Assumes nothing.
 use mathlib.Core.Path.{_≡_, refl, sym, ap}
-use mathlib.Core.List.{List, [], _∷_}
+use mathlib.Core.List.{[], _∷_}
 use Prim.Native.Nat.{ℕ, _+_, _-_, _%_, _^_, _<_}
 use native.Mathlib.Nat.{add-zero}
 use native.Mathlib.Omega.{arith}
 use lib.Pow.{pow-pos}
 use Rattle.bits.proofs.Bits.{bit-of-zero}
-use Rattle.vectors.specs.Row.{Row, row, WellFormed, Covers}
-use Rattle.vectors.specs.Choice.{Chosen}
+use Rattle.vectors.specs.Row.{Row, row, WellFormed}
 use Rattle.vectors.proofs.Rows.{covers-value}
+use Rattle.vectors.proofs.Operands.{chosen-at}
 use Rattle.vectors.proofs.BestLaws.{known-covers}
 use Rattle.operations.specs.Kind.{first, second}
 use Rattle.operations.specs.Arithmetic.{opAdd, opSub, opNeg}
 use Rattle.operations.specs.Result.{Ready}
 use Rattle.sums.proofs.Complements.{opposite, complement, complement-formed, covers-opposite, opposite-covers}
 use Rattle.sums.proofs.Sums.{AsSum}
-
-pub covers-first : (a : Row) (rows : List Row) (ns : List ℕ) → Chosen (a ∷ rows) ns → Covers a (first ns)
-covers-first a rows [] C = absurd C
-covers-first a rows (x ∷ ns) C = C .0
-
-pub covers-second : (a b : Row) (rows : List Row) (ns : List ℕ) → Chosen (a ∷ b ∷ rows) ns → Covers b (second ns)
-covers-second a b rows [] C = absurd C
-covers-second a b rows (x ∷ []) C = absurd (C .1)
-covers-second a b rows (x ∷ y ∷ ns) C = C .1 .0
 
 opposite-twice : (w n : ℕ) → n < 2 ^ w → opposite w (opposite w n) ≡ n
 opposite-twice w n h = omega arith
@@ -48,8 +39,8 @@ module _ (w ma va mb vb : ℕ) where
         left-wide = omega arith;
         right-wide = omega arith;
         terms = λ ns C. record {
-          left-covered = covers-first (row w ma va) (row w mb vb ∷ []) ns C;
-          right-covered = covers-second (row w ma va) (row w mb vb) [] ns C;
+          left-covered = chosen-at (row w ma va ∷ row w mb vb ∷ []) ns C 0;
+          right-covered = chosen-at (row w ma va ∷ row w mb vb ∷ []) ns C 1;
         };
         sum-is = λ ns C. ap (λ (n : ℕ). n % 2 ^ w) (sym (add-zero (first ns + second ns)));
         choice = λ x y T. (x ∷ y ∷ [], (T .left-covered, (T .right-covered, tt)), refl, refl);
@@ -67,11 +58,11 @@ module _ (w ma va mb vb : ℕ) where
         left-wide = omega arith;
         right-wide = omega arith;
         terms = λ ns C. record {
-          left-covered = covers-first (row w ma va) (row w mb vb ∷ []) ns C;
-          right-covered = covers-opposite (row w mb vb) (R .formed .1 .0) (second ns) (covers-second (row w ma va) (row w mb vb) [] ns C);
+          left-covered = chosen-at (row w ma va ∷ row w mb vb ∷ []) ns C 0;
+          right-covered = covers-opposite (row w mb vb) (R .formed .1 .0) (second ns) (chosen-at (row w ma va ∷ row w mb vb ∷ []) ns C 1);
         };
         sum-is = λ ns C.
-            let l = covers-second (row w ma va) (row w mb vb) [] ns C .below in
+            let l = chosen-at (row w ma va ∷ row w mb vb ∷ []) ns C 1 .below in
             let e : 2 ^ w + first ns - second ns ≡ first ns + opposite w (second ns) + 1 = omega arith in
             ap (λ (n : ℕ). n % 2 ^ w) e;
         choice = λ x y T. (
@@ -95,10 +86,10 @@ neg-sum w m v R =
       right-wide = omega arith;
       terms = λ ns C. record {
         left-covered = covers-value (zeros w) (zeros-formed w);
-        right-covered = covers-opposite (row w m v) (R .formed .0) (first ns) (covers-first (row w m v) [] ns C);
+        right-covered = covers-opposite (row w m v) (R .formed .0) (first ns) (chosen-at (row w m v ∷ []) ns C 0);
       };
       sum-is = λ ns C.
-          let l = covers-first (row w m v) [] ns C .below in
+          let l = chosen-at (row w m v ∷ []) ns C 0 .below in
           let e : 2 ^ w - first ns ≡ 0 + opposite w (first ns) + 1 = omega arith in
           ap (λ (n : ℕ). n % 2 ^ w) e;
       choice = λ x y T. (

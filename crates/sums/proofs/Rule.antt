@@ -13,6 +13,7 @@ use Rattle.vectors.specs.Choice.{Chosen}
 use Rattle.vectors.specs.Best.{best}
 use Rattle.vectors.specs.Hull.{Results}
 use Rattle.vectors.proofs.Rows.{top}
+use Rattle.vectors.proofs.Operands.{chosen-at}
 use Rattle.vectors.proofs.Bests.{Gives, ByBits, best-by-bits}
 use Rattle.operations.specs.Kind.{first, second}
 use Rattle.operations.specs.Arithmetic.{opAdd, opSub, opNeg}
@@ -21,7 +22,7 @@ use Rattle.sums.specs.Rule.{lowestSum, lowestDifference, lowestNegation,
 use Rattle.sums.proofs.CarryIn.{lowest}
 use Rattle.sums.proofs.Complements.{opposite, opposite-low}
 use Rattle.sums.proofs.Sums.{Terms, AsSum, values, tops, sum-bit, lowest-least, lowest-greatest, settled, same-floor, unknown-term}
-use Rattle.sums.proofs.AsSums.{covers-first, covers-second, add-sum, sub-sum, neg-sum}
+use Rattle.sums.proofs.AsSums.{add-sum, sub-sum, neg-sum}
 
 module _ {w c : ℕ} {p q : Row} {left right f : List ℕ → ℕ} {rows : List Row} (S : AsSum w c p q left right f rows) (k : ℕ) (h : k < w) (g : List ℕ → ℕ)
     (G : (ns : List ℕ) → Chosen rows ns → g ns ≡ lowest c k (left ns) (right ns)) where
@@ -94,7 +95,7 @@ module _ (w k : ℕ) (h : k < w) where
   unfolding resultOf
   sub-rule ma va mb vb R =
       sum-rule (sub-sum w ma va mb vb R) k h (lowestDifference k)
-      (λ ns C. difference (first ns) (second ns) (covers-second (row w ma va) (row w mb vb) [] ns C .below))
+      (λ ns C. difference (first ns) (second ns) (chosen-at (row w ma va ∷ row w mb vb ∷ []) ns C 1 .below))
 
   negation : (y : ℕ) → y < 2 ^ w → 2 ^ suc k - y % 2 ^ suc k ≡ lowest 1 k 0 (opposite w y)
   negation y l =
@@ -103,4 +104,4 @@ module _ (w k : ℕ) (h : k < w) where
 
   pub neg-rule : (m v : ℕ) → Ready opNeg w 0 (row w m v ∷ []) → SumRule (lowestNegation k) (row w m v ∷ []) k (resultOf opNeg w 0 (row w m v ∷ []))
   unfolding resultOf
-  neg-rule m v R = sum-rule (neg-sum w m v R) k h (lowestNegation k) (λ ns C. negation (first ns) (covers-first (row w m v) [] ns C .below))
+  neg-rule m v R = sum-rule (neg-sum w m v R) k h (lowestNegation k) (λ ns C. negation (first ns) (chosen-at (row w m v ∷ []) ns C 0 .below))

@@ -15,7 +15,7 @@ use Rattle.operations.specs.Kinds.{isKind, kindOf}
 use Rattle.operations.specs.Record.{widthAt, used, operands, rowsNamed, effectOf, effectsOf}
 use Rattle.operations.specs.Result.{widthsOf, resultOf, Ready}
 use Rattle.operations.proofs.Sound.{isRow, row-is, suits, first-is-row, rule-suits, condition-chosen}
-use Rattle.checks.specs.Limits.{widthLimit}
+use Rattle.bits.specs.Limits.{widthLimit}
 use Rattle.checks.specs.Table.{State, rowAt}
 use Rattle.tables.specs.Step.{result, step}
 use Rattle.tables.specs.Encoding.{usedRow, StepReady}

@@ -1,14 +1,15 @@
 -- What one record does: to the rows, to plain numbers, and to both together. Assumes nothing.
 use mathlib.Core.Path.{_≡_, sym, subst}
 use mathlib.Core.Logic.{_≢_}
-use mathlib.Core.List.{List, [], _∷_, map}
+use mathlib.Core.List.{List, map, map-map}
 use Prim.Native.Nat.{ℕ, _<_}
 use lib.ListN.{length, getD}
 use Rattle.vectors.specs.Lists.{All}
-use Rattle.vectors.specs.Row.{WellFormed, Covers, Inside}
+use Rattle.vectors.specs.Row.{Row, WellFormed, Covers, Inside}
 use Rattle.vectors.specs.Choice.{Chosen}
 use Rattle.vectors.specs.Best.{Exact}
 use Rattle.vectors.proofs.Lists.{all-map, all-imp, all-both, all-of, pointwise-map}
+use Rattle.vectors.proofs.Operands.{below-chosen}
 use Rattle.vectors.proofs.Bests.{best-by-bits}
 use Rattle.vectors.proofs.BestLaws.{best-exact, best-covers, best-mono}
 use Rattle.operations.specs.Record.{Effect, widthAt}
@@ -21,10 +22,7 @@ use Rattle.tables.proofs.PutAll.{FitPut, fits-all, others-all, targets-
 
 -- what the covered operands' numbers are below
 pub chosen-below : (widths : List ℕ) (s : State) (is ns : List ℕ) → Chosen (map (rowAt widths s) is) ns → Below (map (widthAt widths) is) ns
-chosen-below widths s [] [] c = tt
-chosen-below widths s [] (n ∷ ns) c = absurd c
-chosen-below widths s (i ∷ is) [] c = absurd c
-chosen-below widths s (i ∷ is) (n ∷ ns) c = (c .0 .below, chosen-below widths s is ns (c .1))
+chosen-below widths s is ns c = subst (λ (ws : List ℕ). Below ws ns) (map-map (λ (r : Row). r .width) (rowAt widths s) is) (below-chosen (map (rowAt widths s) is) ns c)
 
 module _ (widths : List ℕ) where
   results-fit : (s : State) (es : List Effect) → All (λ e. FitPut widths (e .target) (result widths s e)) es

@@ -6,7 +6,7 @@ use Prim.Native.Nat.{ℕ, _*_, _/_, _≤_, _<_}
 use lib.ListN.{length, take, drop}
 use Rattle.operations.specs.Limits.{recordWords}
 use Rattle.operations.specs.Record.{widthAt}
-use Rattle.checks.specs.Limits.{widthLimit}
+use Rattle.bits.specs.Limits.{widthLimit}
 use Rattle.checks.specs.Table.{State}
 use Rattle.checks.specs.Accepted.{RecordPassed}
 use Rattle.tables.specs.Demand.{StateFits}

@@ -10,7 +10,7 @@ use lib.ListN.{length}
 use Rattle.bits.proofs.Bools.{T-right}
 use Rattle.bits.proofs.Bits.{digit-lt}
 use Rattle.operations.specs.Kinds.{kinds}
-use Rattle.checks.specs.Limits.{widthLimit}
+use Rattle.bits.specs.Limits.{widthLimit}
 use Rattle.grammar.specs.Lists.{allOf, same}
 use Rattle.grammar.specs.Words.{edition1, threeLetters, rowWord, opWord, lockedWord}
 use Rattle.grammar.specs.Print.{LineRow, Line, rowLine, recordLine, outside}

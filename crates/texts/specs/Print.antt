@@ -9,7 +9,7 @@ use lib.ListN.{length, getD}
 use Rattle.operations.specs.Limits.{recordWords}
 use Rattle.operations.specs.Kinds.{isKind}
 use Rattle.operations.specs.Record.{kindWord}
-use Rattle.checks.specs.Limits.{widthLimit}
+use Rattle.bits.specs.Limits.{widthLimit}
 use Rattle.checks.specs.Table.{recordCount, recordOf}
 use Rattle.checks.specs.Model.{lent}
 

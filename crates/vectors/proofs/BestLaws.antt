@@ -1,10 +1,8 @@
 -- What `best` is worth: exact, fewest unknown bits, covering, monotone, plain on known rows. Assumes nothing.
 use mathlib.Core.Path.{_≡_, refl, sym, ap, _∙_, subst}
-use mathlib.Core.Logic.{inl}
 use mathlib.Core.List.{List, [], _∷_, map}
 use Prim.Native.Nat.{ℕ, _^_, _<_}
 use native.Mathlib.Omega.{arith}
-use lib.ListN.{getD}
 use lib.Pow.{pow-pos}
 use Rattle.bits.specs.Bit.{bit}
 use Rattle.bits.proofs.Bits.{bit-ext, bit-of-zero}
@@ -13,10 +11,9 @@ use Rattle.vectors.specs.Row.{Row, row, WellFormed, Covers, Inside}
 use Rattle.vectors.specs.Choice.{Chosen}
 use Rattle.vectors.specs.Best.{best, Exact}
 use Rattle.vectors.specs.Hull.{Hull, Results}
-use Rattle.vectors.proofs.Rows.{covered-bit}
 use Rattle.vectors.proofs.Choices.{some-chosen, chosen-inside}
 use Rattle.vectors.proofs.Hulls.{hull-covers, hull-all, hull-least, hull-mono}
-use Rattle.vectors.proofs.Bests.{Gives, ByBits, best-by-bits, best-hull, some-result, best-from-bits}
+use Rattle.vectors.proofs.Bests.{ByBits, best-by-bits, best-hull, some-result, best-from-bits}
 
 module _ (w : ℕ) (f : List ℕ → ℕ) (rows : List Row) where
   result : (ns : List ℕ) → Chosen rows ns → Results f rows (f ns)
@@ -98,22 +95,3 @@ known-chosen (r ∷ rs) (n ∷ ns) F K c =
 pub best-known : (w : ℕ) (f : List ℕ → ℕ) (rows : List Row) → All WellFormed rows → All (λ r. r .mask ≡ 0) rows → f (map (λ r. r .value) rows) < 2 ^ w
     → best w f rows ≡ row w 0 (f (map (λ r. r .value) rows))
 best-known w f rows F K h = best-constant w f rows (f (map (λ r. r .value) rows)) F h (λ ns c. ap f (known-chosen rows ns F K c))
-
--- ---- copy gives the row
-
-pub best-copy : (r : Row) → WellFormed r → best (r .width) (λ ns. getD ns 0 0) (r ∷ []) ≡ r
-best-copy r F =
-    sym (best-from-bits (F, tt) (record {
-      width-is = refl;
-      formed = F;
-      unknown = λ k h e. (one k 0 (omega arith) e, one k 1 (omega arith) e);
-      known = λ k h e ns c. at k h e ns c;
-    }))
-  where
-    one : (k b : ℕ) → b < 2 → bit (r .mask) k ≡ 1 → Gives (λ ns. getD ns 0 0) (r ∷ []) k b
-    one k b h e = let p = covered-bit r F k b h (inl e) in record { numbers = p .0 ∷ []; chosen = (p .1, tt); gives = p .2 }
-
-    at : (k : ℕ) → k < r .width → bit (r .mask) k ≡ 0 → (ns : List ℕ) → Chosen (r ∷ []) ns → bit (getD ns 0 0) k ≡ bit (r .value) k
-    at k h e [] c = absurd c
-    at k h e (n ∷ []) c = c .0 .agrees k h e
-    at k h e (n ∷ m ∷ ns) c = absurd (c .1)

@@ -106,9 +106,6 @@ module _ (w : ℕ) (f : List ℕ → ℕ) (rows : List Row) where
             ];
       }
 
-  pub best-formed : WellFormed (best w f rows)
-  best-formed = best-by-bits .formed
-
   pub best-hull : Hull w (Results f rows) (best w f rows)
   best-hull = hull-of-bits w f rows (best w f rows) best-by-bits
 

@@ -32,18 +32,6 @@ module _ (w : ℕ) (P : ℕ → Type 0) (r : Row) (H : Hull w P r) where
             absurd (omega arith)
       ]
 
-  -- it is inside every vector that covers the set
-  pub hull-inside : Inhabited P → (q : Row) → q .width ≡ w → ((n : ℕ) → P n → Covers q n) → Inside r q
-  hull-inside S q e all n c =
-      record {
-        below = rw e (rw (H .width-is) at (c .below));
-        agrees = λ k h z.
-            let h′ : k < w = rw e at h in
-            let one : (m : ℕ) → P m → bit m k ≡ bit (q .value) k = λ m p. all m p .agrees k h z in
-            let z′ = hull-all k h′ (bit (q .value) k) one in
-            c .agrees k (rw (H .width-is) h′) z′ ∙ sym (H .known k h′ z′ (S .member) (S .is-in)) ∙ one (S .member) (S .is-in);
-      }
-
   -- it has the fewest unknown bits
   pub hull-least : (q : Row) → q .width ≡ w → ((n : ℕ) → P n → Covers q n) → unknowns r ≤ unknowns q
   hull-least q e all = rw (H .width-is, e) (onesIn-mono w (r .mask) (q .mask) more)

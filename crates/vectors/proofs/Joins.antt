@@ -6,7 +6,7 @@ use native.Mathlib.Omega.{arith}
 use lib.Bits.{bitOr, bitXor, differ, and-lt, or-lt, xor-lt}
 use Rattle.bits.specs.Bit.{bit}
 use Rattle.bits.proofs.Bits.{bit-lt, bit-cases, bit-and, bit-or, bit-xor}
-use Rattle.vectors.specs.Row.{Row, WellFormed, Inside}
+use Rattle.vectors.specs.Row.{Row, WellFormed}
 use Rattle.vectors.specs.Hull.{Shows, Hull, join}
 use Rattle.vectors.proofs.Hulls.{Inhabited, shows-imp}
 
@@ -55,12 +55,6 @@ module _ (p q : Row) where
               ]
             ]
           ]
-
-  pub join-left : Inside p (join p q)
-  join-left n c = record { below = c .below; agrees = λ k h e. let j = join-known k e in c .agrees k h (j .0) ∙ j .2 }
-
-  pub join-right : p .width ≡ q .width → Inside q (join p q)
-  join-right e n c = record { below = rw e (c .below); agrees = λ k h z. let j = join-known k z in c .agrees k (rw e at h) (j .1) ∙ j .3 }
 
 -- the join is the best vector for both sets
 pub hull-join : (w : ℕ) (P Q : ℕ → Type 0) (p q : Row) → Hull w P p → Hull w Q q → Inhabited P → Inhabited Q → Hull w (λ n. P n ⊎ Q n) (join p q)

@@ -2,8 +2,8 @@
 pub mod Lists
 pub mod Rows
 pub mod Choices
+pub mod Operands
 pub mod Hulls
-pub mod Insides
 pub mod Joins
 pub mod Bests
 pub mod BestLaws

@@ -27,7 +27,3 @@ all-member P (b ∷ l) q d = elim (List·Memᴰ·cases-cons d) [ inl e ↦ subst
 pub pointwise-map : {A B C : Type 0} {Q : A → Type 0} (R : B → C → Type 0) (g : A → B) (g′ : A → C) → ((a : A) → Q a → R (g a) (g′ a)) → (l : List A) → All Q l → Pointwise R (map g l) (map g′ l)
 pointwise-map R g g′ h [] q = tt
 pointwise-map R g g′ h (a ∷ l) q = (h a (q .0), pointwise-map R g g′ h l (q .1))
-
-pub pointwise-all : {A : Type 0} {Q : A → Type 0} (R : A → A → Type 0) → ((a : A) → Q a → R a a) → (l : List A) → All Q l → Pointwise R l l
-pointwise-all R h [] q = tt
-pointwise-all R h (a ∷ l) q = (h a (q .0), pointwise-all R h l (q .1))

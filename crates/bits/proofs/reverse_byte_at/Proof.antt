@@ -9,17 +9,11 @@ use Rattle.bits.proofs.Reversed.{reversed-mod, reversed-below}
 use Rattle.bits.proofs.reverse_byte_at.Statement.{statement}
 use Rattle.bits.proofs.reverse_byte_at.Tie as tie
 
-shr-reverse-byte : tie.Need-shr-reverse-byte
-shr-reverse-byte c = search needs
-
 cast-reverse-byte : tie.Need-cast-reverse-byte
 cast-reverse-byte c = omega (arith, and-le-r (c .args .x / 2 ^ c .args .k) 255)
 
 reverse-byte-requires : tie.Need-reverse-byte-requires
 reverse-byte-requires c κs = (omega (arith, and-le-r (c .args .x / 2 ^ c .args .k) 255), c .pre .1)
-
-cast-result : tie.Need-cast-result
-cast-result c = search needs
 
 returns : tie.Need-returns
 returns c =
@@ -30,4 +24,4 @@ returns c =
 pub reverse-byte-at-spec : {M : Type 1} → statement M
 reverse-byte-at-spec =
     tie.close
-    (tie.spec shr-reverse-byte cast-reverse-byte reverse-byte-requires cast-result returns)
+    (tie.spec (λ c. search needs) cast-reverse-byte reverse-byte-requires (λ c. search needs) returns)

@@ -11,8 +11,5 @@ reverse-each-requires : tie.Need-reverse-each-requires
 unfolding reversedBytes listed reversed number isSet bit
 reverse-each-requires c κs = refl
 
-returns : tie.Need-returns
-returns c = search needs
-
 pub reverse-words-spec : {M : Type 1} → statement M
-reverse-words-spec = tie.close (tie.spec reverse-each-requires returns)
+reverse-words-spec = tie.close (tie.spec reverse-each-requires (λ c. search needs))

@@ -4,14 +4,8 @@ use Rattle.bits.proofs.Constants.{ones-shr}
 use Rattle.bits.proofs.width_mask.Statement.{statement}
 use Rattle.bits.proofs.width_mask.Tie as tie
 
-sub-result : tie.Need-sub-result
-sub-result c = search needs
-
-shr-result : tie.Need-shr-result
-shr-result c = search needs
-
 returns : tie.Need-returns
 returns c = ones-shr (c .args .w) 32 (c .pre .1)
 
 pub width-mask-spec : {M : Type 1} → statement M
-width-mask-spec = tie.close (tie.spec sub-result shr-result returns)
+width-mask-spec = tie.close (tie.spec (λ c. search needs) (λ c. search needs) returns)

@@ -7,8 +7,5 @@ use Rattle.columns.proofs.exact_product.Tie as tie
 mul-result : tie.Need-mul-result
 mul-result c = record { fits = product-fits (c .args .a) (c .args .b) (c .fits .a .fits) (c .fits .b .fits) }
 
-returns : tie.Need-returns
-returns c = search needs
-
 pub exact-product-spec : {M : Type 1} → statement M
-exact-product-spec = tie.close (tie.spec mul-result returns)
+exact-product-spec = tie.close (tie.spec mul-result (λ c. search needs))

@@ -11,9 +11,6 @@ use Rattle.columns.proofs.ones_below.Tie as tie
 returns : tie.Need-returns
 returns c = let e : min (c .before .args .n) 32 ≡ 32 = omega arith in ap (λ (x : ℕ). 2 ^ x - 1) (sym e)
 
-shl-result : tie.Need-shl-result
-shl-result c = search needs
-
 sub-result : tie.Need-sub-result
 sub-result c = let e = shifted-one 32 (c .before .args .n) (omega arith) in let p = pow-pos (c .before .args .n) in omega arith
 
@@ -24,4 +21,4 @@ returns-2 c =
     ap (λ (x : ℕ). x - 1) (shifted-one 32 n (omega arith) ∙ ap (λ (x : ℕ). 2 ^ x) e)
 
 pub ones-below-spec : {M : Type 1} → statement M
-ones-below-spec = tie.close (tie.spec returns shl-result sub-result returns-2)
+ones-below-spec = tie.close (tie.spec returns (λ c. search needs) sub-result returns-2)

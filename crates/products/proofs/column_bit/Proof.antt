@@ -50,7 +50,7 @@ with-pair-requires c κs =
     let p = c .before .before .before in
     let a = p .before .args in
     let g = p .before .pre .0 in
-    (lone-within (g .width) (a .ma) (a .va) (a .mb) (a .vb) (a .k) (g .below) (g .first) (g .second) _ (pairs-are p) _ (is-lone p (c .before .before .if1 .left) (c .before .if2 .left)), omega (arith, g .below, g .most))
+    (lone-within (g .width) (a .ma) (a .va) (a .mb) (a .vb) (a .k) (g .below) (g .formed .first) (g .formed .second) _ (pairs-are p) _ (is-lone p (c .before .before .if1 .left) (c .before .if2 .left)), omega (arith, g .below, g .formed .most))
 
 returns-3 : tie.Need-returns-3
 returns-3 c w h F G =

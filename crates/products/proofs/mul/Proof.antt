@@ -1,6 +1,6 @@
 -- `mul` meets its contract: the unknown columns are the mask, the values' product has the other bits. Assumes nothing.
 use borrow.Author.Needs.{needs}
-use Rattle.columns.specs.Settled.{Formed}
+use Rattle.columns.specs.Formed.{Formed}
 use Rattle.products.proofs.Planes.{planes-of, planes-known}
 use Rattle.products.proofs.mul.Statement.{statement}
 use Rattle.products.proofs.mul.Tie as tie

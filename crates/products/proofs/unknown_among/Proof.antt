@@ -9,7 +9,8 @@ use borrow.Author.Needs.{needs}
 use Rattle.bits.specs.Bit.{bit}
 use Rattle.bits.proofs.Bits.{bit-lt}
 use Rattle.bits.proofs.LowestBit.{lowest, lowest-below, clear-less}
-use Rattle.columns.specs.Settled.{productOf, Formed}
+use Rattle.columns.specs.Formed.{Formed}
+use Rattle.columns.specs.Settled.{productOf}
 use Rattle.columns.proofs.ProductMask.{product-below}
 use Rattle.columns.proofs.Parts.{Part, part-below}
 use Rattle.products.proofs.Unsettled.{Worked, worked-start, left-next, worked-next, worked-end, granted-word}

@@ -11,15 +11,6 @@ use Rattle.products.proofs.Planes.{mask-bit-of}
 use Rattle.products.proofs.unknown_column.Statement.{statement}
 use Rattle.products.proofs.unknown_column.Tie as tie
 
-column-bit-requires : tie.Need-column-bit-requires
-column-bit-requires c κs = search needs
-
-mask-bit-requires : tie.Need-mask-bit-requires
-mask-bit-requires c κs = search needs
-
-shl-result : tie.Need-shl-result
-shl-result c = search needs
-
 returns : tie.Need-returns
 returns c w h F =
     let s = c .before .before in
@@ -30,4 +21,4 @@ returns c w h F =
     ap (λ (n : ℕ). n * 2 ^ a .k % 2 ^ 32) e ∙ shifted-bit 32 (bit (q .mask) (a .k)) (a .k) (bit-lt (q .mask) (a .k)) (omega arith)
 
 pub unknown-column-spec : {M : Type 1} → statement M
-unknown-column-spec = tie.close (tie.spec column-bit-requires mask-bit-requires shl-result returns)
+unknown-column-spec = tie.close (tie.spec (λ c κs. search needs) (λ c κs. search needs) (λ c. search needs) returns)

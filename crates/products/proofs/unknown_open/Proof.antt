@@ -4,7 +4,8 @@ use Prim.Native.Nat.{ℕ, _-_, _^_, _<_, min}
 use native.Mathlib.Nat.{lt-of-le-of-lt}
 use lib.Bits.{bitAnd, bitOr, and-zero-l, or-zero-r, and-le-l}
 use borrow.Author.Needs.{needs}
-use Rattle.columns.specs.Settled.{productOf, Formed}
+use Rattle.columns.specs.Formed.{Formed}
+use Rattle.columns.specs.Settled.{productOf}
 use Rattle.products.proofs.Unsettled.{granted-part, low-or-worked}
 use Rattle.products.proofs.unknown_open.Statement.{statement}
 use Rattle.products.proofs.unknown_open.Tie as tie

@@ -9,9 +9,6 @@ use Rattle.sums.proofs.Cuts.{not-cut}
 use Rattle.sums.proofs.from_extremes.Statement.{statement}
 use Rattle.sums.proofs.from_extremes.Tie as tie
 
-width-mask-requires : tie.Need-width-mask-requires
-width-mask-requires c κs = search needs
-
 returns : tie.Need-returns
 returns c =
     let a = c .before .args in
@@ -21,4 +18,4 @@ returns c =
     (e, ap (bitAnd (a .least)) (ap (bitAnd (2 ^ 32 - 1 - m)) (c .width-mask .ensures) ∙ not-cut (a .w) 32 m (c .before .pre .1) (rw e (mod-lt n (pow-pos (a .w))))))
 
 pub from-extremes-spec : {M : Type 1} → statement M
-from-extremes-spec = tie.close (tie.spec width-mask-requires returns)
+from-extremes-spec = tie.close (tie.spec (λ c κs. search needs) returns)

@@ -5,12 +5,6 @@ use Rattle.columns.proofs.Between.{settled-above}
 use Rattle.columns.proofs.reach.end_reached.Statement.{statement}
 use Rattle.columns.proofs.reach.end_reached.Tie as tie
 
-exact-product-requires : tie.Need-exact-product-requires
-exact-product-requires c κs = search needs
-
-exact-product-requires-2 : tie.Need-exact-product-requires-2
-exact-product-requires-2 c κs = search needs
-
 sub-result : tie.Need-sub-result
 sub-result c = leading-le 64 _
 
@@ -23,4 +17,4 @@ returns c =
 
 pub end-reached-spec : {M : Type 1} → statement M
 end-reached-spec =
-    tie.close (tie.spec exact-product-requires exact-product-requires-2 sub-result returns)
+    tie.close (tie.spec (λ c κs. search needs) (λ c κs. search needs) sub-result returns)

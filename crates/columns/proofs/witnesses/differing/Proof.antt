@@ -6,12 +6,9 @@ use Rattle.columns.specs.Choices.{difference}
 use Rattle.columns.proofs.witnesses.differing.Statement.{statement}
 use Rattle.columns.proofs.witnesses.differing.Tie as tie
 
-product-requires : tie.Need-product-requires
-product-requires c κs = search needs
-
 returns : tie.Need-returns
 unfolding difference
 returns c = ap (bitXor (c .before .args .plain)) (c .product .ensures)
 
 pub differing-spec : {M : Type 1} → statement M
-differing-spec = tie.close (tie.spec product-requires returns)
+differing-spec = tie.close (tie.spec (λ c κs. search needs) returns)

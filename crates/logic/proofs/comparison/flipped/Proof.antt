@@ -10,16 +10,10 @@ use lib.Bits.{bitAnd, bitXor}
 use Rattle.logic.proofs.comparison.flipped.Statement.{statement}
 use Rattle.logic.proofs.comparison.flipped.Tie as tie
 
-sub-result : tie.Need-sub-result
-sub-result c = search needs
-
-shl-result : tie.Need-shl-result
-shl-result c = search needs
-
 returns : tie.Need-returns
 returns c =
     let a = c .args in
     ap (λ (x : ℕ). bitXor (a .v) (bitAnd x (2 ^ 32 - 1 - a .m))) (ap (λ (x : ℕ). x % 2 ^ 32) (one-mul (2 ^ (a .w - 1))) ∙ mod-eq-of-lt (pow-lt {j = 32} (omega arith)))
 
 pub flipped-spec : {M : Type 1} → statement M
-flipped-spec = tie.close (tie.spec sub-result shl-result returns)
+flipped-spec = tie.close (tie.spec (λ c. search needs) (λ c. search needs) returns)

@@ -4,15 +4,6 @@ use Rattle.logic.proofs.Comparisons.{slt-result}
 use Rattle.logic.proofs.comparison.slt.Statement.{statement}
 use Rattle.logic.proofs.comparison.slt.Tie as tie
 
-flipped-requires : tie.Need-flipped-requires
-flipped-requires c κs = search needs
-
-flipped-requires-2 : tie.Need-flipped-requires-2
-flipped-requires-2 c κs = search needs
-
-tested-requires : tie.Need-tested-requires
-tested-requires c κs = search needs
-
 returns : tie.Need-returns
 returns c =
     let s = c .before .before .before in
@@ -20,4 +11,4 @@ returns c =
     slt-result (a .w) (a .ma) (a .va) (a .mb) (a .vb) _ _ 32 _ _ (s .pre .0) (s .pre .1) (c .before .before .flipped .ensures) (c .before .flipped2 .ensures) (c .tested .ensures)
 
 pub slt-spec : {M : Type 1} → statement M
-slt-spec = tie.close (tie.spec flipped-requires flipped-requires-2 tested-requires returns)
+slt-spec = tie.close (tie.spec (λ c κs. search needs) (λ c κs. search needs) (λ c κs. search needs) returns)

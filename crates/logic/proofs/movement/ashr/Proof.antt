@@ -7,12 +7,6 @@ use Rattle.logic.proofs.Sources.{ashr-moved}
 use Rattle.logic.proofs.movement.ashr.Statement.{statement}
 use Rattle.logic.proofs.movement.ashr.Tie as tie
 
-ashr-plane-requires : tie.Need-ashr-plane-requires
-ashr-plane-requires c κs = search needs
-
-ashr-plane-requires-2 : tie.Need-ashr-plane-requires-2
-ashr-plane-requires-2 c κs = search needs
-
 returns : tie.Need-returns
 unfolding kinds
 returns c =
@@ -20,4 +14,4 @@ returns c =
     moving-result 7 refl (s .pre .1) (ashr-moved (s .args .w) (s .args .p) (s .pre .1 .wide)) (c .before .ashr-plane .ensures) (c .ashr-plane2 .ensures)
 
 pub ashr-spec : {M : Type 1} → statement M
-ashr-spec = tie.close (tie.spec ashr-plane-requires ashr-plane-requires-2 returns)
+ashr-spec = tie.close (tie.spec (λ c κs. search needs) (λ c κs. search needs) returns)

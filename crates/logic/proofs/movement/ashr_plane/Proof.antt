@@ -7,12 +7,6 @@ use Rattle.logic.proofs.Planes.{ashr-sext, shifted-below}
 use Rattle.logic.proofs.movement.ashr_plane.Statement.{statement}
 use Rattle.logic.proofs.movement.ashr_plane.Tie as tie
 
-sub-sext-plane : tie.Need-sub-sext-plane
-sub-sext-plane c = search needs
-
-shr-sext-plane : tie.Need-shr-sext-plane
-shr-sext-plane c = search needs
-
 sext-plane-requires : tie.Need-sext-plane-requires
 sext-plane-requires c κs =
     let a = c .before .args in
@@ -23,12 +17,6 @@ returns : tie.Need-returns
 returns c =
     let a = c .before .before .args in
     c .sext-plane .ensures ∙ ashr-sext (a .w) (a .w - a .p) (a .p) (a .p) (a .x) (omega arith) (omega arith)
-
-sub-sext-plane-2 : tie.Need-sub-sext-plane-2
-sub-sext-plane-2 c = search needs
-
-shr-sext-plane-2 : tie.Need-shr-sext-plane-2
-shr-sext-plane-2 c = search needs
 
 sext-plane-requires-2 : tie.Need-sext-plane-requires-2
 sext-plane-requires-2 c κs =
@@ -42,4 +30,4 @@ returns-2 c =
     c .sext-plane2 .ensures ∙ ashr-sext (a .w) 1 (a .p) (a .w - 1) (a .x) (omega arith) (omega arith)
 
 pub ashr-plane-spec : {M : Type 1} → statement M
-ashr-plane-spec = tie.close (tie.spec sub-sext-plane shr-sext-plane sext-plane-requires returns sub-sext-plane-2 shr-sext-plane-2 sext-plane-requires-2 returns-2)
+ashr-plane-spec = tie.close (tie.spec (λ c. search needs) (λ c. search needs) sext-plane-requires returns (λ c. search needs) (λ c. search needs) sext-plane-requires-2 returns-2)

@@ -7,16 +7,10 @@ use Rattle.logic.proofs.Planes.{extract-word}
 use Rattle.logic.proofs.movement.extract_plane.Statement.{statement}
 use Rattle.logic.proofs.movement.extract_plane.Tie as tie
 
-shr-result : tie.Need-shr-result
-shr-result c = search needs
-
-width-mask-requires : tie.Need-width-mask-requires
-width-mask-requires c κs = search needs
-
 returns : tie.Need-returns
 returns c =
     let a = c .before .args in
     ap (bitAnd (a .x / 2 ^ a .p)) (c .width-mask .ensures) ∙ extract-word (a .wt) (a .wa) (a .p) (a .x)
 
 pub extract-plane-spec : {M : Type 1} → statement M
-extract-plane-spec = tie.close (tie.spec shr-result width-mask-requires returns)
+extract-plane-spec = tie.close (tie.spec (λ c. search needs) (λ c κs. search needs) returns)

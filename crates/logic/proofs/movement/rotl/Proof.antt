@@ -7,12 +7,6 @@ use Rattle.logic.proofs.Rotations.{rotl-moved}
 use Rattle.logic.proofs.movement.rotl.Statement.{statement}
 use Rattle.logic.proofs.movement.rotl.Tie as tie
 
-rotl-plane-requires : tie.Need-rotl-plane-requires
-rotl-plane-requires c κs = search needs
-
-rotl-plane-requires-2 : tie.Need-rotl-plane-requires-2
-rotl-plane-requires-2 c κs = search needs
-
 returns : tie.Need-returns
 unfolding kinds
 returns c =
@@ -20,4 +14,4 @@ returns c =
     moving-result 8 refl (s .pre .1) (rotl-moved (s .args .w) (s .args .p)) (c .before .rotl-plane .ensures) (c .rotl-plane2 .ensures)
 
 pub rotl-spec : {M : Type 1} → statement M
-rotl-spec = tie.close (tie.spec rotl-plane-requires rotl-plane-requires-2 returns)
+rotl-spec = tie.close (tie.spec (λ c κs. search needs) (λ c κs. search needs) returns)

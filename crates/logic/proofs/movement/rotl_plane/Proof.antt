@@ -9,23 +9,11 @@ use Rattle.logic.proofs.Rotations.{rotl-word}
 use Rattle.logic.proofs.movement.rotl_plane.Statement.{statement}
 use Rattle.logic.proofs.movement.rotl_plane.Tie as tie
 
-rem-q : tie.Need-rem-q
-rem-q c = search needs
-
 shl-result : tie.Need-shl-result
 shl-result c = omega (arith, mod-lt (c .args .p) (c .pre .0))
 
-sub-result : tie.Need-sub-result
-sub-result c = search needs
-
 sub-result-2 : tie.Need-sub-result-2
 sub-result-2 c = omega (arith, mod-lt (c .args .p) (c .pre .0))
-
-shr-result : tie.Need-shr-result
-shr-result c = search needs
-
-width-mask-requires : tie.Need-width-mask-requires
-width-mask-requires c κs = search needs
 
 returns : tie.Need-returns
 returns c =
@@ -35,4 +23,4 @@ returns c =
     ∙ rotl-word (a .w) (a .p) (a .x) 32 (h .0) (h .1) (h .2)
 
 pub rotl-plane-spec : {M : Type 1} → statement M
-rotl-plane-spec = tie.close (tie.spec rem-q shl-result sub-result sub-result-2 shr-result width-mask-requires returns)
+rotl-plane-spec = tie.close (tie.spec (λ c. search needs) shl-result (λ c. search needs) sub-result-2 (λ c. search needs) (λ c κs. search needs) returns)

@@ -7,23 +7,11 @@ use Rattle.logic.proofs.Planes.{sext-same, sext-fill}
 use Rattle.logic.proofs.movement.sext_plane.Statement.{statement}
 use Rattle.logic.proofs.movement.sext_plane.Tie as tie
 
-sub-if1 : tie.Need-sub-if1
-sub-if1 c = search needs
-
-shr-if1 : tie.Need-shr-if1
-shr-if1 c = search needs
-
 returns : tie.Need-returns
 returns c =
     let a = c .before .args in
     let h = c .before .pre in
     sext-same (a .wt) (a .wa) (a .x) (h .0) (h .1) (h .3) (c .if1 .taken)
-
-width-mask-requires : tie.Need-width-mask-requires
-width-mask-requires c κs = search needs
-
-width-mask-requires-2 : tie.Need-width-mask-requires-2
-width-mask-requires-2 c κs = search needs
 
 returns-2 : tie.Need-returns-2
 returns-2 c =
@@ -34,4 +22,4 @@ returns-2 c =
     ∙ sext-fill (a .wt) (a .wa) (a .x) (h .0) (h .1) (h .3) (s .if1 .left)
 
 pub sext-plane-spec : {M : Type 1} → statement M
-sext-plane-spec = tie.close (tie.spec sub-if1 shr-if1 returns width-mask-requires width-mask-requires-2 returns-2)
+sext-plane-spec = tie.close (tie.spec (λ c. search needs) (λ c. search needs) returns (λ c κs. search needs) (λ c κs. search needs) returns-2)

@@ -7,16 +7,10 @@ use Rattle.logic.proofs.Planes.{shl-word}
 use Rattle.logic.proofs.movement.shl_plane.Statement.{statement}
 use Rattle.logic.proofs.movement.shl_plane.Tie as tie
 
-shl-result : tie.Need-shl-result
-shl-result c = search needs
-
-width-mask-requires : tie.Need-width-mask-requires
-width-mask-requires c κs = search needs
-
 returns : tie.Need-returns
 returns c =
     let a = c .before .args in
     ap (bitAnd (a .x * 2 ^ a .p % 2 ^ 32)) (c .width-mask .ensures) ∙ shl-word (a .w) (a .p) (a .x) 32 (c .before .pre .1)
 
 pub shl-plane-spec : {M : Type 1} → statement M
-shl-plane-spec = tie.close (tie.spec shl-result width-mask-requires returns)
+shl-plane-spec = tie.close (tie.spec (λ c. search needs) (λ c κs. search needs) returns)

@@ -12,15 +12,6 @@ use Rattle.products.specs.ColumnSum.{columnFloor}
 use Rattle.products.proofs.column_sums.column_floor.Statement.{statement}
 use Rattle.products.proofs.column_sums.column_floor.Tie as tie
 
-column-sum-requires : tie.Need-column-sum-requires
-column-sum-requires c κs = search needs
-
-cast-result : tie.Need-cast-result
-cast-result c = search needs
-
-shr-result : tie.Need-shr-result
-shr-result c = search needs
-
 returns : tie.Need-returns
 unfolding columnFloor
 returns c =
@@ -32,4 +23,4 @@ returns c =
     ∙ ap (λ (y : ℤ). shrZ y (2 ^ k)) (c .column-sum .ensures)
 
 pub column-floor-spec : {M : Type 1} → statement M
-column-floor-spec = tie.close (tie.spec column-sum-requires cast-result shr-result returns)
+column-floor-spec = tie.close (tie.spec (λ c κs. search needs) (λ c. search needs) (λ c. search needs) returns)

@@ -8,12 +8,6 @@ use Rattle.products.proofs.Words.{low-row-word}
 use Rattle.products.proofs.column_sums.low_row.Statement.{statement}
 use Rattle.products.proofs.column_sums.low_row.Tie as tie
 
-sub-result : tie.Need-sub-result
-sub-result c = search needs
-
-shl-result : tie.Need-shl-result
-shl-result c = search needs
-
 sub-result-2 : tie.Need-sub-result-2
 sub-result-2 c =
     let a = c .args in
@@ -21,11 +15,8 @@ sub-result-2 c =
     let e = shifted-one 32 (a .k - a .i) (omega arith) in
     omega (arith, pow-pos (a .k - a .i))
 
-shl-result-2 : tie.Need-shl-result-2
-shl-result-2 c = search needs
-
 returns : tie.Need-returns
 returns c = low-row-word 32 (c .args .k) (c .args .i) (c .args .b) (c .pre .0) (c .pre .1)
 
 pub low-row-spec : {M : Type 1} → statement M
-low-row-spec = tie.close (tie.spec sub-result shl-result sub-result-2 shl-result-2 returns)
+low-row-spec = tie.close (tie.spec (λ c. search needs) (λ c. search needs) sub-result-2 (λ c. search needs) returns)

@@ -9,15 +9,6 @@ use Rattle.products.specs.Factors.{lowRow, greatestBit}
 use Rattle.products.proofs.factors.greatest_bit.Statement.{statement}
 use Rattle.products.proofs.factors.greatest_bit.Tie as tie
 
-sub-low-row : tie.Need-sub-low-row
-sub-low-row c = search needs
-
-low-row-requires : tie.Need-low-row-requires
-low-row-requires c κs = search needs
-
-low-row-requires-2 : tie.Need-low-row-requires-2
-low-row-requires-2 c κs = search needs
-
 returns : tie.Need-returns
 unfolding greatestBit
 returns c =
@@ -32,4 +23,4 @@ returns-2 c =
 
 pub greatest-bit-spec : {M : Type 1} → statement M
 greatest-bit-spec =
-    tie.close (tie.spec sub-low-row low-row-requires low-row-requires-2 returns returns-2)
+    tie.close (tie.spec (λ c. search needs) (λ c κs. search needs) (λ c κs. search needs) returns returns-2)

@@ -11,23 +11,11 @@ use Rattle.products.proofs.Sizes.{row-size}
 use Rattle.products.proofs.factors.least_bit.Statement.{statement}
 use Rattle.products.proofs.factors.least_bit.Tie as tie
 
-low-row-requires : tie.Need-low-row-requires
-low-row-requires c κs = search needs
-
-sub-low-row : tie.Need-sub-low-row
-sub-low-row c = search needs
-
-low-row-requires-2 : tie.Need-low-row-requires-2
-low-row-requires-2 c κs = search needs
-
 add-if1 : tie.Need-add-if1
 add-if1 c =
     let a = c .before .before .args in
     let h = c .before .before .pre in
     omega (arith, row-size (a .k) (a .i) (a .b) (h .0) (h .1), row-size (a .k) (a .k - a .i) (a .a) (omega arith) (h .1))
-
-shl-if1 : tie.Need-shl-if1
-shl-if1 c = search needs
 
 returns : tie.Need-returns
 unfolding leastBit
@@ -48,4 +36,4 @@ returns-2 c =
 pub least-bit-spec : {M : Type 1} → statement M
 least-bit-spec =
     tie.close
-    (tie.spec low-row-requires sub-low-row low-row-requires-2 add-if1 shl-if1 returns returns-2)
+    (tie.spec (λ c κs. search needs) (λ c. search needs) (λ c κs. search needs) add-if1 (λ c. search needs) returns returns-2)

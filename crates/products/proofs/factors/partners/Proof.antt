@@ -8,12 +8,6 @@ use Rattle.bits.proofs.Reversed.{reversed-shr}
 use Rattle.products.proofs.factors.partners.Statement.{statement}
 use Rattle.products.proofs.factors.partners.Tie as tie
 
-sub-result : tie.Need-sub-result
-sub-result c = search needs
-
-shr-result : tie.Need-shr-result
-shr-result c = search needs
-
 returns : tie.Need-returns
 returns c x f =
     let k = c .args .k in
@@ -24,4 +18,4 @@ returns c x f =
     ∙ reversed-shr 32 (k + 1) x (omega arith)
 
 pub partners-spec : {M : Type 1} → statement M
-partners-spec = tie.close (tie.spec sub-result shr-result returns)
+partners-spec = tie.close (tie.spec (λ c. search needs) (λ c. search needs) returns)

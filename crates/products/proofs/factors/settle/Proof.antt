@@ -8,15 +8,6 @@ use Rattle.products.specs.Factors.{settledBit}
 use Rattle.products.proofs.factors.settle.Statement.{statement}
 use Rattle.products.proofs.factors.settle.Tie as tie
 
-column-floor-requires : tie.Need-column-floor-requires
-column-floor-requires c κs = search needs
-
-column-floor-requires-2 : tie.Need-column-floor-requires-2
-column-floor-requires-2 c κs = search needs
-
-bit-of-floors-requires : tie.Need-bit-of-floors-requires
-bit-of-floors-requires c κs = search needs
-
 returns : tie.Need-returns
 unfolding settledBit
 returns c =
@@ -28,4 +19,4 @@ returns c =
 pub settle-spec : {M : Type 1} → statement M
 settle-spec =
     tie.close
-    (tie.spec column-floor-requires column-floor-requires-2 bit-of-floors-requires returns)
+    (tie.spec (λ c κs. search needs) (λ c κs. search needs) (λ c κs. search needs) returns)

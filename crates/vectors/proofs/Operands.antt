@@ -2,20 +2,20 @@
 --   noRow         the row past the end of a list; it covers 0
 --   formed-at     each row is well formed;  chosen-at   each covers the number chosen for it
 --   choose-at     a number that one row covers is part of a choice
+--   below-chosen  each number chosen is below 2 to the power of its row's width
 use mathlib.Core.Path.{_≡_, refl, sym}
-use mathlib.Core.List.{List, [], _∷_}
-use Prim.Native.Nat.{ℕ, zero, suc}
+use mathlib.Core.List.{List, [], _∷_, map}
+use Prim.Native.Nat.{ℕ, zero, suc, _^_, _<_}
 use native.Mathlib.Nat.{not-suc-le-zero}
 use native.Mathlib.Omega.{arith}
 use lib.Arith.{lt-one}
 use lib.ListN.{getD}
 use Rattle.bits.proofs.Bits.{bit-of-zero}
-use Rattle.vectors.specs.Lists.{All}
+use Rattle.vectors.specs.Lists.{All, Pointwise}
 use Rattle.vectors.specs.Row.{Row, row, WellFormed, Covers}
 use Rattle.vectors.specs.Choice.{Chosen}
 use Rattle.vectors.proofs.Rows.{covers-value}
 use Rattle.vectors.proofs.Choices.{some-chosen}
-use Rattle.operations.specs.Result.{Below, widthsOf}
 
 abbrev pub noRow : Row
 noRow = row 0 0 0
@@ -37,7 +37,7 @@ choose-at [] F i n c = ([], tt, sym (lt-one (c .below)))
 choose-at (r ∷ rs) F zero n c = let (ns, d) = some-chosen rs (F .1) in (n ∷ ns, (c, d), refl)
 choose-at (r ∷ rs) F (suc i) n c = let (ns, d, e) = choose-at rs (F .1) i n c in (r .value ∷ ns, (covers-value r (F .0), d), e)
 
-pub below-chosen : (rows : List Row) (ns : List ℕ) → Chosen rows ns → Below (widthsOf rows) ns
+pub below-chosen : (rows : List Row) (ns : List ℕ) → Chosen rows ns → Pointwise (λ w n. n < 2 ^ w) (map (λ r. r .width) rows) ns
 below-chosen [] [] c = tt
 below-chosen [] (n ∷ ns) c = absurd c
 below-chosen (r ∷ rs) [] c = absurd c
