@@ -43,7 +43,7 @@ rising-elim f n p j l = subst (λ (x : ℕ). Passed (f x)) (zero-add j) (from-el
 
 -- ---- the verdict
 
--- the first condition decides, or leaves the verdict to the rest
+-- the first condition decides, or leaves the verdict to the rest; the last one ends it
 pub hits : (c : Check) (cs : List Check) → c .fails ≡ true → judged (c ∷ cs) ≡ refused (c .number) (c .place)
 unfolding verdict
 hits c cs e = rw e refl
@@ -51,6 +51,10 @@ hits c cs e = rw e refl
 pub skips : (c : Check) (cs : List Check) → c .fails ≡ false → judged (c ∷ cs) ≡ judged cs
 unfolding verdict
 skips c cs e = rw e refl
+
+pub clears : (c : Check) → c .fails ≡ false → judged (c ∷ []) ≡ done tt
+unfolding verdict
+clears c e = rw e refl
 
 -- a condition that does not hold leaves the verdict to the rest
 passes : {A : Type 0} (b : Bool) (r rest : Answer A) → T (not b) → cond b r rest ≡ rest

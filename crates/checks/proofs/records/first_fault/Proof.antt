@@ -1,16 +1,15 @@
 -- `checks::records::first_fault` meets its contract, test by test. Assumes nothing.
 use mathlib.Core.Path.{_≡_, sym, ap, _∙_}
 use mathlib.Core.Bool.{not}
-use mathlib.Core.List.{[]}
 use Prim.Native.Nat.{ℕ}
 use borrow.Author.Needs.{needs}
 use lib.Dec.{T}
 use lib.ListN.{drop}
 use Rattle.operations.specs.Kinds.{isKind}
 use Rattle.operations.specs.Record.{wordsOf, namedFaults}
-use Rattle.checks.specs.Check.{Answer, placed, verdict}
+use Rattle.checks.specs.Check.{Answer, placed}
 use Rattle.checks.specs.Model.{judged}
-use Rattle.checks.proofs.Verdicts.{hits, skips}
+use Rattle.checks.proofs.Verdicts.{hits, skips, clears}
 use Rattle.checks.proofs.Naming.{kind-in, first-outside, first-misused}
 use Rattle.checks.proofs.records.first_fault.Statement.{statement}
 use Rattle.checks.proofs.records.first_fault.Tie as tie
@@ -79,8 +78,7 @@ returns-7 : tie.Need-returns-7
 returns-7 c = let t = c .before in c .refuse7 .ensures ∙ sym (past-second-use (t .before .before) ∙ hits _ _ (sym (t .before .parameter-misused .ensures) ∙ t .if7 .taken))
 
 returns-8 : tie.Need-returns-8
-unfolding verdict
-returns-8 c = sym (past-second-use (c .before .before) ∙ skips _ [] (sym (c .before .parameter-misused .ensures) ∙ c .if7 .left))
+returns-8 c = sym (past-second-use (c .before .before) ∙ clears _ (sym (c .before .parameter-misused .ensures) ∙ c .if7 .left))
 
 pub first-fault-spec : {M : Type 1} → statement M
 first-fault-spec =
