@@ -1,12 +1,12 @@
 -- Checks 9 and 10 of a record, and the record checks with and without 10. Assumes nothing.
-use mathlib.Core.Path.{_≡_, refl, ap}
+use mathlib.Core.Path.{_≡_, refl}
 use mathlib.Core.Bool.{Bool, true, false, not}
 use mathlib.Core.List.{List, [], _∷_, append-nil}
 use Prim.Native.Nat.{ℕ, zero, suc}
 use borrow.Author.Tests.{eq-eqb, ne-eqb}
-use lib.Dec.{eqb}
 use lib.ListN.{getD}
-use Rattle.operations.specs.Record.{fault, targetWord, recordFaults, lockFault}
+use Rattle.operations.specs.declared.Record.{Record}
+use Rattle.operations.specs.Record.{wordsOf, fault, recordFaults, lockFault}
 use Rattle.checks.specs.Check.{done, refused, Check, verdict, placed, rising}
 use Rattle.checks.specs.Table.{Table, recordCount, recordOf}
 use Rattle.checks.specs.Checks.{recordChecks, openChecks}
@@ -25,23 +25,17 @@ fits-refused b i e = simp e
 
 -- ---- check 10
 
-pub lock-refused : (b : Bool) (locks : List ℕ) (t i : ℕ) → b ≡ true → getD locks t 0 ≡ 1 → judged (lockWith b locks (0 ∷ t ∷ []) i) ≡ refused 10 i
+pub lock-refused : (b : Bool) (locks : List ℕ) (r : Record) (i : ℕ) → b ≡ true → getD locks (r .t) 0 ≡ 1 → judged (lockWith b locks (wordsOf r) i) ≡ refused 10 i
 unfolding verdict lockFault
-lock-refused b locks t i e h = rw e (simp (eq-eqb (getD locks t 0) 1 h))
+lock-refused b locks r i e h = rw e (simp (eq-eqb (getD locks (r .t) 0) 1 h))
 
-pub lock-open : (b : Bool) (locks : List ℕ) (t i : ℕ) → b ≡ true → (getD locks t 0 ≡ 1 → ⊥) → judged (lockWith b locks (0 ∷ t ∷ []) i) ≡ done tt
+pub lock-open : (b : Bool) (locks : List ℕ) (r : Record) (i : ℕ) → b ≡ true → (getD locks (r .t) 0 ≡ 1 → ⊥) → judged (lockWith b locks (wordsOf r) i) ≡ done tt
 unfolding verdict lockFault
-lock-open b locks t i e h = rw e (simp (ne-eqb (getD locks t 0) 1 h))
+lock-open b locks r i e h = rw e (simp (ne-eqb (getD locks (r .t) 0) 1 h))
 
-pub lock-unasked : (b : Bool) (locks : List ℕ) (t i : ℕ) → b ≡ false → judged (lockWith b locks (0 ∷ t ∷ []) i) ≡ done tt
+pub lock-unasked : (b : Bool) (locks : List ℕ) (r : Record) (i : ℕ) → b ≡ false → judged (lockWith b locks (wordsOf r) i) ≡ done tt
 unfolding verdict
-lock-unasked b locks t i e = rw e refl
-
--- it looks at the target alone
-pub lock-target : (b : Bool) (locks l m : List ℕ) (i : ℕ) → targetWord l ≡ targetWord m → lockWith b locks l i ≡ lockWith b locks m i
-unfolding lockFault
-lock-target true locks l m i e = ap (λ (t : ℕ). placed i (fault (eqb (getD locks t 0) 1) 10 ∷ [])) e
-lock-target false locks l m i e = refl
+lock-unasked b locks r i e = rw e refl
 
 -- ---- with check 10, and without it
 

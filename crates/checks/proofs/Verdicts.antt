@@ -7,6 +7,7 @@ use native.Mathlib.Nat.{add-zero, zero-add, add-suc, suc-add}
 use native.Mathlib.Omega.{arith}
 use lib.Dec.{T}
 use Rattle.checks.specs.Check.{Answer, done, refused, Check, verdict, rising, Passed}
+use Rattle.checks.specs.Model.{judged}
 
 pub passed-append : (cs ds : List Check) → Passed cs → Passed ds → Passed (cs ++ ds)
 passed-append [] ds p q = q
@@ -41,6 +42,19 @@ pub rising-elim : (f : ℕ → List Check) (n : ℕ) → Passed (rising f 0 n) �
 rising-elim f n p j l = subst (λ (x : ℕ). Passed (f x)) (zero-add j) (from-elim f 0 n p j l)
 
 -- ---- the verdict
+
+-- the first condition decides, or leaves the verdict to the rest; the last one ends it
+pub hits : (c : Check) (cs : List Check) → c .fails ≡ true → judged (c ∷ cs) ≡ refused (c .number) (c .place)
+unfolding verdict
+hits c cs e = rw e refl
+
+pub skips : (c : Check) (cs : List Check) → c .fails ≡ false → judged (c ∷ cs) ≡ judged cs
+unfolding verdict
+skips c cs e = rw e refl
+
+pub clears : (c : Check) → c .fails ≡ false → judged (c ∷ []) ≡ done tt
+unfolding verdict
+clears c e = rw e refl
 
 -- a condition that does not hold leaves the verdict to the rest
 passes : {A : Type 0} (b : Bool) (r rest : Answer A) → T (not b) → cond b r rest ≡ rest

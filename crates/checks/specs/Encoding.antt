@@ -1,11 +1,12 @@
 -- How the code's tables write what a kind's description says. Cited by contracts of inner functions alone: no public contract rests on it.
+--   byteLimit    the greatest number of a byte
 --   limitOf n u  the number that a word must be below;   Reads r n b p   the rows that a rule asks for are there
 --   WordsPassed n words       a record passed checks 6 to 8, in a table of n rows
 --   lockWith, recordWith, recordsWith   checks 6 to 9, and 10 where it is asked for: of a lock, a record, all records
 --   headChecks, bodyChecks   checks 1 to 3 without a stretch; the rows' and the records' checks
 --   RowSlices    the four row slices have one length (check 2 passed)
 use mathlib.Core.Bool.{Bool, true, false}
-use mathlib.Core.List.{List, [], _∷_, _++_}
+use mathlib.Core.List.{List, [], _++_}
 use Prim.Native.Nat.{ℕ, suc, _≤_, _<_}
 use mathlib.Core.Path.{_≡_}
 use lib.ListN.{length}
@@ -16,6 +17,9 @@ use Rattle.checks.specs.Table.{Table, recordCount, recordOf}
 use Rattle.checks.specs.Checks.{rowShapeFaults, wordFaults, rowChecks}
 use Rattle.operations.specs.Limits.{parameterLimit}
 use Rattle.operations.specs.Kind.{Use, asRow, asNumber, unused, Rule, sameWidth, sameWidths, takenWidth, joinedWidths, extendedWidth, comparedWidths, chosenWidths}
+
+abbrev pub byteLimit : ℕ
+byteLimit = 255
 
 -- the number that a word must be below, in a table of n rows, to be neither outside it nor misused
 abbrev pub limitOf : ℕ → Use → ℕ
@@ -39,7 +43,7 @@ pub record RowSlices (widths locks masks values : List ℕ) : Type 0 where
   pub masks-length : length masks ≡ length widths
   pub values-length : length values ≡ length widths
 
--- a record passed checks 6 to 8, in a table of n rows, at most 256
+-- a record passed checks 6 to 8, in a table of n rows, at most rowLimit
 pub record WordsPassed (n : ℕ) (words : List ℕ) : Type 0 where
   pub few : n ≤ rowLimit
   pub passed : Passed (placed 0 (namedFaults n words))

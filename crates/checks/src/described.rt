@@ -3,27 +3,36 @@ ghost use mathlib.Core.Path.{_≡_};
 ghost use mathlib.Core.List.{[], _∷_};
 ghost use mathlib.Core.Bool.{_&&_};
 ghost use Prim.Native.Nat.{_≤_, _<_};
-ghost use lib.Dec.{eqb};
+ghost use lib.Dec.{eqb, leb, ltb};
 ghost use lib.ListN.{length};
 ghost use Rattle.operations.specs.Kind.{Use, asks};
 ghost use Rattle.operations.specs.Record.{widthAt, wordOutside, misused};
 ghost use Rattle.operations.specs.Encoding.{useCode, ruleNumbered};
-ghost use Rattle.checks.specs.Encoding.{limitOf, Reads};
+ghost use Rattle.checks.specs.Encoding.{byteLimit, limitOf, Reads};
+ghost use Rattle.checks.specs.Limits.{rowLimit};
 use crate::limits::PARAMETER_LIMIT;
+use crate::records::index;
 use crate::rows::wide;
 
+// Whether a word names no row of a table of n rows.
+pub fn row_outside(n: usize, word: u32) -> bool
+    ensures { λ r. ⌜ r ≡ leb n word ⌝ }
+{
+    n <= index(word)
+}
+
 // Whether a word that is used as the code says lies outside a table of n rows.
-pub fn word_outside(code: u64, n: usize, word: usize) -> bool
+pub fn word_outside(code: u64, n: usize, word: u32) -> bool
     ensures { λ r. ⌜ ((u : Use) → code ≡ useCode u → r ≡ wordOutside n u word) ⌝ }
 {
     if code != 1 {
         return false;
     }
-    n <= word
+    row_outside(n, word)
 }
 
 // Whether a word that is used as the code says is none that the kind may have.
-pub fn word_misused(code: u64, word: usize) -> bool
+pub fn word_misused(code: u64, word: u32) -> bool
     ensures { λ r. ⌜ ((u : Use) → code ≡ useCode u → r ≡ misused u word) ⌝ }
 {
     if code == 1 {
@@ -36,30 +45,39 @@ pub fn word_misused(code: u64, word: usize) -> bool
 }
 
 // The number that a word must be below, where it is used as the code says, in a table of n rows: then it is neither of the two.
-pub fn word_limit(code: u64, n: usize) -> usize
+fn word_limit(code: u64, n: usize) -> usize
     ensures { λ r. ⌜ ((u : Use) → code ≡ useCode u → r ≡ limitOf n u) ⌝ }
 {
     if code == 1 {
         return n;
     }
     if code == 2 {
-        return PARAMETER_LIMIT + 1;
+        return index(PARAMETER_LIMIT) + 1;
     }
     1
+}
+
+// Whether a word is below it.
+pub fn word_within(code: u64, n: usize, word: u32) -> bool
+    ensures { λ r. ⌜ ((u : Use) → code ≡ useCode u → r ≡ ltb word (limitOf n u)) ⌝ }
+{
+    index(word) < word_limit(code, n)
 }
 
 // The width of a row.
 pub fn width_at(width: &[u8], i: usize) -> usize
     requires { ⌜ i < length (now width) ⌝ }
-    ensures { λ r. ⌜ (r ≤ 256) × (r ≡ widthAt (now (width .entry)) i) ⌝ }
+    ensures { λ r. ⌜ (r ≤ byteLimit) × (r ≡ widthAt (now (width .entry)) i) ⌝ }
 {
     wide(width[i]) as usize
 }
 
 // Whether the widths fit: the target's, the first operand's, and those of the rows b and p, read where the rule of that code asks for them.
 pub fn rule_fits(width: &[u8], code: u64, wt: usize, wa: usize, b: usize, p: usize) -> bool
-    requires { ⌜ (code < 7) × (wt ≤ 256) × (wa ≤ 256) × (p ≤ 256) × Reads (ruleNumbered code) (length (now width)) b p ⌝ }
-    ensures { λ r. ⌜ r ≡ asks (ruleNumbered code) wt (wa ∷ widthAt (now (width .entry)) b ∷ widthAt (now (width .entry)) p ∷ []) p ⌝ }
+    requires { ⌜ (code < 7) × (wt ≤ byteLimit) × (wa ≤ byteLimit) × (p ≤ rowLimit) × Reads (ruleNumbered code) (length (now width)) b p ⌝ }
+    ensures { λ r.
+        let widths = now (width .entry) in
+        ⌜ r ≡ asks (ruleNumbered code) wt (wa ∷ widthAt widths b ∷ widthAt widths p ∷ []) p ⌝ }
 {
     match code {
         0 => wt == wa,

@@ -2,6 +2,7 @@
 ghost use mathlib.Core.Path.{_≡_};
 ghost use mathlib.Core.List.{[]};
 ghost use lib.ListN.{length};
+ghost use Rattle.checks.specs.Limits.{rowLimit};
 ghost use Rattle.checks.specs.Check.{refused, placed};
 ghost use Rattle.checks.specs.Checks.{rowShapeFaults, wordFaults, stretchFaults, sizeChecks, runChecks, countChecks};
 ghost use Rattle.checks.specs.Encoding.{RowSlices, headChecks, bodyChecks};
@@ -55,13 +56,13 @@ pub fn check_shape(width: &[u8], lock: &[u8], mask: &[u32], value: &[u32]) -> Ve
         return refuse(refusals::ROWS, 0);
     }
     if lock.len() != n {
-        return refuse(2, 0);
+        return refuse(refusals::LENGTHS, 0);
     }
     if mask.len() != n {
-        return refuse(2, 0);
+        return refuse(refusals::LENGTHS, 0);
     }
     if value.len() != n {
-        return refuse(2, 0);
+        return refuse(refusals::LENGTHS, 0);
     }
     Verdict::Passed
 }
@@ -71,17 +72,19 @@ pub fn check_words(words: &[u32]) -> Verdict
     ensures { λ r. ⌜ verdictModel r ≡ judged (placed 0 (wordFaults (lent [] [] [] [] (now (words .entry))))) ⌝ }
 {
     if words.len() % RECORD_WORDS != 0 {
-        return refuse(3, 0);
+        return refuse(refusals::RECORDS, 0);
     }
     if RECORD_LIMIT < words.len() / RECORD_WORDS {
-        return refuse(3, 0);
+        return refuse(refusals::RECORDS, 0);
     }
     Verdict::Passed
 }
 
 // Checks 1 to 3, but for the stretch.
 fn check_head(width: &[u8], lock: &[u8], mask: &[u32], value: &[u32], words: &[u32]) -> Verdict
-    ensures { λ r. ⌜ verdictModel r ≡ judged (headChecks (lent (now (width .entry)) (now (lock .entry)) (now (mask .entry)) (now (value .entry)) (now (words .entry)))) ⌝ }
+    ensures { λ r.
+        let table = lent (now (width .entry)) (now (lock .entry)) (now (mask .entry)) (now (value .entry)) (now (words .entry)) in
+        ⌜ verdictModel r ≡ judged (headChecks table) ⌝ }
 {
     let shape = check_shape(width, lock, mask, value);
     match shape {
@@ -102,8 +105,10 @@ fn check_body(
     value: &[u32],
     words: &[u32],
 ) -> Verdict
-    requires { ⌜ (length (now width) ≤ 256) × RowSlices (now width) (now lock) (now mask) (now value) ⌝ }
-    ensures { λ r. ⌜ verdictModel r ≡ judged (bodyChecks locked (lent (now (width .entry)) (now (lock .entry)) (now (mask .entry)) (now (value .entry)) (now (words .entry)))) ⌝ }
+    requires { ⌜ (length (now width) ≤ rowLimit) × RowSlices (now width) (now lock) (now mask) (now value) ⌝ }
+    ensures { λ r.
+        let table = lent (now (width .entry)) (now (lock .entry)) (now (mask .entry)) (now (value .entry)) (now (words .entry)) in
+        ⌜ verdictModel r ≡ judged (bodyChecks locked table) ⌝ }
 {
     let found = check_rows(width, lock, mask, value);
     match found {
@@ -117,7 +122,9 @@ fn check_body(
 
 // What size refuses.
 pub fn check_table(width: &[u8], lock: &[u8], mask: &[u32], value: &[u32], words: &[u32]) -> Verdict
-    ensures { λ r. ⌜ verdictModel r ≡ judged (sizeChecks (lent (now (width .entry)) (now (lock .entry)) (now (mask .entry)) (now (value .entry)) (now (words .entry)))) ⌝ }
+    ensures { λ r.
+        let table = lent (now (width .entry)) (now (lock .entry)) (now (mask .entry)) (now (value .entry)) (now (words .entry)) in
+        ⌜ verdictModel r ≡ judged (sizeChecks table) ⌝ }
 {
     let head = check_head(width, lock, mask, value, words);
     match head {
@@ -134,10 +141,10 @@ fn check_stretch(words: &[u32], first: usize, last: usize) -> Verdict
     ensures { λ r. ⌜ verdictModel r ≡ judged (placed 0 (stretchFaults (lent [] [] [] [] (now (words .entry))) first last)) ⌝ }
 {
     if last < first {
-        return refuse(3, 0);
+        return refuse(refusals::RECORDS, 0);
     }
     if words.len() / RECORD_WORDS < last {
-        return refuse(3, 0);
+        return refuse(refusals::RECORDS, 0);
     }
     Verdict::Passed
 }
@@ -152,7 +159,9 @@ pub fn check_run(
     first: usize,
     last: usize,
 ) -> Verdict
-    ensures { λ r. ⌜ verdictModel r ≡ judged (runChecks (lent (now (width .entry)) (now (lock .entry)) (now (mask .entry)) (now (value .entry)) (now (words .entry))) first last) ⌝ }
+    ensures { λ r.
+        let table = lent (now (width .entry)) (now (lock .entry)) (now (mask .entry)) (now (value .entry)) (now (words .entry)) in
+        ⌜ verdictModel r ≡ judged (runChecks table first last) ⌝ }
 {
     let head = check_head(width, lock, mask, value, words);
     match head {
@@ -173,7 +182,9 @@ pub fn check_run(
 
 // What count refuses.
 pub fn check_count(width: &[u8], lock: &[u8], mask: &[u32], value: &[u32], row: usize) -> Verdict
-    ensures { λ r. ⌜ verdictModel r ≡ judged (countChecks (lent (now (width .entry)) (now (lock .entry)) (now (mask .entry)) (now (value .entry)) []) row) ⌝ }
+    ensures { λ r.
+        let table = lent (now (width .entry)) (now (lock .entry)) (now (mask .entry)) (now (value .entry)) [] in
+        ⌜ verdictModel r ≡ judged (countChecks table row) ⌝ }
 {
     let shape = check_shape(width, lock, mask, value);
     match shape {
@@ -190,7 +201,7 @@ pub fn check_count(width: &[u8], lock: &[u8], mask: &[u32], value: &[u32], row: 
         Verdict::Passed => {}
     }
     if width.len() <= row {
-        return refuse(7, row);
+        return refuse(refusals::ROW, row);
     }
     Verdict::Passed
 }

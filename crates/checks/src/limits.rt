@@ -9,4 +9,4 @@ pub const RECORD_LIMIT: usize = 1024;
 pub const WIDTH_LIMIT: u32 = 32;
 
 // The greatest shift, rotation or extract parameter.
-pub const PARAMETER_LIMIT: usize = 31;
+pub const PARAMETER_LIMIT: u32 = 31;

@@ -1,23 +1,29 @@
 // Checks 6 to 10 of records.
 ghost use mathlib.Core.Path.{_≡_};
-ghost use mathlib.Core.List.{[], _∷_};
+ghost use mathlib.Core.List.{[]};
 ghost use Prim.Native.Nat.{_/_, _≤_, _<_};
 ghost use lib.ListN.{length};
 ghost use mathlib.Core.Bool.{true};
 ghost use lib.Dec.{T};
+ghost use Rattle.operations.specs.Limits.{recordWords};
 ghost use Rattle.operations.specs.Kinds.{isKind, kindOf};
-ghost use Rattle.operations.specs.Record.{wordOutside, misused, namedFaults, recordFaults, widthsFit};
+ghost use Rattle.operations.specs.Record.{wordsOf, wordOutside, misused, namedFaults, recordFaults, widthsFit};
+ghost use Rattle.checks.specs.Limits.{rowLimit};
+ghost use Rattle.checks.specs.Table.{recordOf};
 ghost use Rattle.checks.specs.Check.{placed, Passed};
 ghost use Rattle.checks.specs.Model.{lent, verdictModel, judged};
 ghost use Rattle.checks.specs.Encoding.{WordsPassed, lockWith, recordWith, recordsWith};
 use crate::Verdict;
+use crate::described::row_outside;
 use crate::described::rule_fits;
 use crate::described::width_at;
-use crate::described::word_limit;
 use crate::described::word_misused;
 use crate::described::word_outside;
+use crate::described::word_within;
+use crate::refusals;
 use crate::refuse;
 use operations::RECORD_WORDS;
+use operations::Record;
 use operations::is_kind;
 use operations::parameter_use;
 use operations::rule;
@@ -30,129 +36,144 @@ pub fn index(x: u32) -> usize
     x as usize
 }
 
+// Record i of the words.
+pub fn record_at(words: &[u32], i: usize) -> Record
+    requires { ⌜ i < length (now words) / recordWords ⌝ }
+    ensures { λ r. ⌜ wordsOf r ≡ recordOf (lent [] [] [] [] (now (words .entry))) i ⌝ }
+{
+    let k = RECORD_WORDS * i;
+    Record {
+        kind: words[k],
+        t: words[k + 1],
+        a: words[k + 2],
+        b: words[k + 3],
+        p: words[k + 4],
+    }
+}
+
 // Whether a record passes checks 6 to 8, in a table of n rows: a word is below its limit exactly where neither 7 nor 8 refuses it.
-fn words_pass(n: usize, kind: u32, t: usize, a: usize, b: usize, p: usize) -> bool
-    ensures { λ r. ⌜ (r ≡ true → Passed (placed 0 (namedFaults n (kind ∷ t ∷ a ∷ b ∷ p ∷ [])))) ⌝ }
+fn words_pass(n: usize, r: Record) -> bool
+    ensures { λ b. ⌜ (b ≡ true → Passed (placed 0 (namedFaults n (wordsOf r)))) ⌝ }
 {
-    if !is_kind(kind) {
+    if !is_kind(r.kind) {
         return false;
     }
-    if n <= t {
+    if row_outside(n, r.t) {
         return false;
     }
-    if n <= a {
+    if row_outside(n, r.a) {
         return false;
     }
-    if word_limit(second_use(kind), n) <= b {
+    if !word_within(second_use(r.kind), n, r.b) {
         return false;
     }
-    p < word_limit(parameter_use(kind), n)
+    word_within(parameter_use(r.kind), n, r.p)
 }
 
-// What the word b, and the word p, is to a kind: outside the table, or none that it may have.
-fn second_outside(kind: u32, n: usize, b: usize) -> bool
-    requires { ⌜ T (isKind kind) ⌝ }
-    ensures { λ r. ⌜ r ≡ wordOutside n (kindOf kind .use-b) b ⌝ }
+// What the word b, and the word p, is to the record's kind: outside the table, or none that it may have.
+fn second_outside(n: usize, r: Record) -> bool
+    requires { ⌜ T (isKind (r .kind)) ⌝ }
+    ensures { λ b. ⌜ b ≡ wordOutside n (kindOf (r .kind) .use-b) (r .b) ⌝ }
 {
-    word_outside(second_use(kind), n, b)
+    word_outside(second_use(r.kind), n, r.b)
 }
 
-fn parameter_outside(kind: u32, n: usize, p: usize) -> bool
-    requires { ⌜ T (isKind kind) ⌝ }
-    ensures { λ r. ⌜ r ≡ wordOutside n (kindOf kind .use-p) p ⌝ }
+fn parameter_outside(n: usize, r: Record) -> bool
+    requires { ⌜ T (isKind (r .kind)) ⌝ }
+    ensures { λ b. ⌜ b ≡ wordOutside n (kindOf (r .kind) .use-p) (r .p) ⌝ }
 {
-    word_outside(parameter_use(kind), n, p)
+    word_outside(parameter_use(r.kind), n, r.p)
 }
 
-fn second_misused(kind: u32, b: usize) -> bool
-    requires { ⌜ T (isKind kind) ⌝ }
-    ensures { λ r. ⌜ r ≡ misused (kindOf kind .use-b) b ⌝ }
+fn second_misused(r: Record) -> bool
+    requires { ⌜ T (isKind (r .kind)) ⌝ }
+    ensures { λ b. ⌜ b ≡ misused (kindOf (r .kind) .use-b) (r .b) ⌝ }
 {
-    word_misused(second_use(kind), b)
+    word_misused(second_use(r.kind), r.b)
 }
 
-fn parameter_misused(kind: u32, p: usize) -> bool
-    requires { ⌜ T (isKind kind) ⌝ }
-    ensures { λ r. ⌜ r ≡ misused (kindOf kind .use-p) p ⌝ }
+fn parameter_misused(r: Record) -> bool
+    requires { ⌜ T (isKind (r .kind)) ⌝ }
+    ensures { λ b. ⌜ b ≡ misused (kindOf (r .kind) .use-p) (r .p) ⌝ }
 {
-    word_misused(parameter_use(kind), p)
+    word_misused(parameter_use(r.kind), r.p)
 }
 
 // The first of checks 6 to 8 that a record fails, test by test; i is its place.
-fn first_fault(n: usize, kind: u32, t: usize, a: usize, b: usize, p: usize, i: usize) -> Verdict
-    ensures { λ r. ⌜ verdictModel r ≡ judged (placed i (namedFaults n (kind ∷ t ∷ a ∷ b ∷ p ∷ []))) ⌝ }
+fn first_fault(n: usize, r: Record, i: usize) -> Verdict
+    ensures { λ v. ⌜ verdictModel v ≡ judged (placed i (namedFaults n (wordsOf r))) ⌝ }
 {
-    if !is_kind(kind) {
-        return refuse(6, i);
+    if !is_kind(r.kind) {
+        return refuse(refusals::KIND, i);
     }
-    if n <= t {
-        return refuse(7, i);
+    if row_outside(n, r.t) {
+        return refuse(refusals::ROW, i);
     }
-    if n <= a {
-        return refuse(7, i);
+    if row_outside(n, r.a) {
+        return refuse(refusals::ROW, i);
     }
-    if second_outside(kind, n, b) {
-        return refuse(7, i);
+    if second_outside(n, r) {
+        return refuse(refusals::ROW, i);
     }
-    if parameter_outside(kind, n, p) {
-        return refuse(7, i);
+    if parameter_outside(n, r) {
+        return refuse(refusals::ROW, i);
     }
-    if second_misused(kind, b) {
-        return refuse(8, i);
+    if second_misused(r) {
+        return refuse(refusals::WORD, i);
     }
-    if parameter_misused(kind, p) {
-        return refuse(8, i);
+    if parameter_misused(r) {
+        return refuse(refusals::WORD, i);
     }
     Verdict::Passed
 }
 
 // The first of checks 6 to 8 that a record fails: which one is looked for only where there is one.
-fn check_named(n: usize, kind: u32, t: u32, a: u32, b: u32, p: u32, i: usize) -> Verdict
-    ensures { λ r. ⌜ verdictModel r ≡ judged (placed i (namedFaults n (kind ∷ t ∷ a ∷ b ∷ p ∷ []))) ⌝ }
+fn check_named(n: usize, r: Record, i: usize) -> Verdict
+    ensures { λ v. ⌜ verdictModel v ≡ judged (placed i (namedFaults n (wordsOf r))) ⌝ }
 {
-    if words_pass(n, kind, index(t), index(a), index(b), index(p)) {
+    if words_pass(n, r) {
         return Verdict::Passed;
     }
-    first_fault(n, kind, index(t), index(a), index(b), index(p), i)
+    first_fault(n, r, i)
 }
 
 // Whether check 9 passes, of a record that passed 6 to 8.
-fn record_fits(width: &[u8], kind: u32, t: u32, a: u32, b: u32, p: u32) -> bool
-    requires { ⌜ WordsPassed (length (now width)) (kind ∷ t ∷ a ∷ b ∷ p ∷ []) ⌝ }
-    ensures { λ r. ⌜ r ≡ widthsFit (now (width .entry)) (kind ∷ t ∷ a ∷ b ∷ p ∷ []) ⌝ }
+fn record_fits(width: &[u8], r: Record) -> bool
+    requires { ⌜ WordsPassed (length (now width)) (wordsOf r) ⌝ }
+    ensures { λ b. ⌜ b ≡ widthsFit (now (width .entry)) (wordsOf r) ⌝ }
 {
-    let wt = width_at(width, index(t));
-    let wa = width_at(width, index(a));
-    rule_fits(width, rule(kind), wt, wa, index(b), index(p))
+    let wt = width_at(width, index(r.t));
+    let wa = width_at(width, index(r.a));
+    rule_fits(width, rule(r.kind), wt, wa, index(r.b), index(r.p))
 }
 
 // The first of checks 6 to 9 that a record fails.
-fn check_record(width: &[u8], kind: u32, t: u32, a: u32, b: u32, p: u32, i: usize) -> Verdict
-    requires { ⌜ length (now width) ≤ 256 ⌝ }
-    ensures { λ r. ⌜ verdictModel r ≡ judged (placed i (recordFaults (now (width .entry)) (kind ∷ t ∷ a ∷ b ∷ p ∷ []))) ⌝ }
+fn check_record(width: &[u8], r: Record, i: usize) -> Verdict
+    requires { ⌜ length (now width) ≤ rowLimit ⌝ }
+    ensures { λ v. ⌜ verdictModel v ≡ judged (placed i (recordFaults (now (width .entry)) (wordsOf r))) ⌝ }
 {
-    let found = check_named(width.len(), kind, t, a, b, p, i);
+    let found = check_named(width.len(), r, i);
     match found {
         Verdict::Refused(_) => {
             return found;
         }
         Verdict::Passed => {}
     }
-    if record_fits(width, kind, t, a, b, p) {
+    if record_fits(width, r) {
         return Verdict::Passed;
     }
-    refuse(9, i)
+    refuse(refusals::FIT, i)
 }
 
 // Check 10, where it is asked for: the record's target is locked.
-fn check_lock(locked: bool, lock: &[u8], t: u32, i: usize) -> Verdict
-    requires { ⌜ t < length (now lock) ⌝ }
-    ensures { λ r. ⌜ verdictModel r ≡ judged (lockWith locked (now (lock .entry)) (0 ∷ t ∷ []) i) ⌝ }
+fn check_lock(locked: bool, lock: &[u8], r: Record, i: usize) -> Verdict
+    requires { ⌜ r .t < length (now lock) ⌝ }
+    ensures { λ v. ⌜ verdictModel v ≡ judged (lockWith locked (now (lock .entry)) (wordsOf r) i) ⌝ }
 {
     if locked {
-        let j = index(t);
+        let j = index(r.t);
         if lock[j] == 1 {
-            return refuse(10, i);
+            return refuse(refusals::LOCKED, i);
         }
     }
     Verdict::Passed
@@ -160,29 +181,28 @@ fn check_lock(locked: bool, lock: &[u8], t: u32, i: usize) -> Verdict
 
 // The first of checks 6 to 9, and 10 where it is asked for, that record i fails.
 fn check_one(locked: bool, width: &[u8], lock: &[u8], words: &[u32], i: usize) -> Verdict
-    requires { ⌜ (length (now width) ≤ 256) × (length (now lock) ≡ length (now width)) × (i < length (now words) / 5) ⌝ }
-    ensures { λ r. ⌜ verdictModel r ≡ judged (recordWith locked (lent (now (width .entry)) (now (lock .entry)) [] [] (now (words .entry))) i) ⌝ }
+    requires { ⌜ (length (now width) ≤ rowLimit) × (length (now lock) ≡ length (now width)) × (i < length (now words) / recordWords) ⌝ }
+    ensures { λ v.
+        let table = lent (now (width .entry)) (now (lock .entry)) [] [] (now (words .entry)) in
+        ⌜ verdictModel v ≡ judged (recordWith locked table i) ⌝ }
 {
-    let k = RECORD_WORDS * i;
-    let kind = words[k];
-    let t = words[k + 1];
-    let a = words[k + 2];
-    let b = words[k + 3];
-    let p = words[k + 4];
-    let found = check_record(width, kind, t, a, b, p, i);
+    let r = record_at(words, i);
+    let found = check_record(width, r, i);
     match found {
         Verdict::Refused(_) => {
             return found;
         }
         Verdict::Passed => {}
     }
-    check_lock(locked, lock, t, i)
+    check_lock(locked, lock, r, i)
 }
 
 // Records rising, 6 to 9 in number order, and 10 where it is asked for.
 pub fn check_records(locked: bool, width: &[u8], lock: &[u8], words: &[u32]) -> Verdict
-    requires { ⌜ (length (now width) ≤ 256) × (length (now lock) ≡ length (now width)) ⌝ }
-    ensures { λ r. ⌜ verdictModel r ≡ judged (recordsWith locked (lent (now (width .entry)) (now (lock .entry)) [] [] (now (words .entry)))) ⌝ }
+    requires { ⌜ (length (now width) ≤ rowLimit) × (length (now lock) ≡ length (now width)) ⌝ }
+    ensures { λ v.
+        let table = lent (now (width .entry)) (now (lock .entry)) [] [] (now (words .entry)) in
+        ⌜ verdictModel v ≡ judged (recordsWith locked table) ⌝ }
 {
     let n = words.len() / RECORD_WORDS;
     let mut i: usize = 0;

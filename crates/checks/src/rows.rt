@@ -1,12 +1,15 @@
 // Checks 4 and 5 of rows.
 ghost use mathlib.Core.Path.{_≡_};
 ghost use mathlib.Core.List.{[]};
+ghost use Prim.Native.Nat.{_≤_};
 ghost use Rattle.checks.specs.Check.{placed};
-ghost use Rattle.checks.specs.Checks.{rowFaults, rowChecks};
+ghost use Rattle.checks.specs.Checks.{widthFaults, vectorFaults, rowFaults, rowChecks};
+ghost use Rattle.checks.specs.Limits.{widthLimit};
 ghost use Rattle.checks.specs.Model.{lent, verdictModel, judged};
 ghost use Rattle.checks.specs.Encoding.{RowSlices};
 use crate::Verdict;
 use crate::limits::WIDTH_LIMIT;
+use crate::refusals;
 use crate::refuse;
 
 // A byte as a number of 32 bits.
@@ -16,36 +19,60 @@ pub fn wide(x: u8) -> u32
     x as u32
 }
 
+// Check 4 of a width; i is its place.
+pub fn check_width(w: u32, i: usize) -> Verdict
+    ensures { λ r. ⌜ verdictModel r ≡ judged (placed i (widthFaults w)) ⌝ }
+{
+    if w == 0 {
+        return refuse(refusals::WIDTH, i);
+    }
+    if WIDTH_LIMIT < w {
+        return refuse(refusals::WIDTH, i);
+    }
+    Verdict::Passed
+}
+
+// Check 5 of a vector whose width passed check 4; i is its place.
+pub fn check_vector(w: u32, m: u32, v: u32, i: usize) -> Verdict
+    requires { ⌜ (1 ≤ w) × (w ≤ widthLimit) ⌝ }
+    ensures { λ r. ⌜ verdictModel r ≡ judged (placed i (vectorFaults w m v)) ⌝ }
+{
+    let full = bits::width_mask(w);
+    if full < m {
+        return refuse(refusals::VECTOR, i);
+    }
+    if full < v {
+        return refuse(refusals::VECTOR, i);
+    }
+    if m & v != 0 {
+        return refuse(refusals::VECTOR, i);
+    }
+    Verdict::Passed
+}
+
 // The first of checks 4 and 5 that a row fails; i is its place.
 fn check_row(w: u32, l: u8, m: u32, v: u32, i: usize) -> Verdict
     ensures { λ r. ⌜ verdictModel r ≡ judged (placed i (rowFaults w l m v)) ⌝ }
 {
-    if w == 0 {
-        return refuse(4, i);
-    }
-    if WIDTH_LIMIT < w {
-        return refuse(4, i);
+    let found = check_width(w, i);
+    match found {
+        Verdict::Refused(_) => {
+            return found;
+        }
+        Verdict::Passed => {}
     }
     if 1 < l {
-        return refuse(4, i);
+        return refuse(refusals::WIDTH, i);
     }
-    let full = bits::width_mask(w);
-    if full < m {
-        return refuse(5, i);
-    }
-    if full < v {
-        return refuse(5, i);
-    }
-    if m & v != 0 {
-        return refuse(5, i);
-    }
-    Verdict::Passed
+    check_vector(w, m, v, i)
 }
 
 // Rows rising, 4 before 5.
 pub fn check_rows(width: &[u8], lock: &[u8], mask: &[u32], value: &[u32]) -> Verdict
     requires { ⌜ RowSlices (now width) (now lock) (now mask) (now value) ⌝ }
-    ensures { λ r. ⌜ verdictModel r ≡ judged (rowChecks (lent (now (width .entry)) (now (lock .entry)) (now (mask .entry)) (now (value .entry)) [])) ⌝ }
+    ensures { λ r.
+        let table = lent (now (width .entry)) (now (lock .entry)) (now (mask .entry)) (now (value .entry)) [] in
+        ⌜ verdictModel r ≡ judged (rowChecks table) ⌝ }
 {
     let mut i: usize = 0;
     while i < width.len() {

@@ -1,8 +1,10 @@
--- Laws of lists of operand rows. Assumes nothing.
+-- Laws of lists: of operand rows, and of a part of the words. Assumes nothing.
 use mathlib.Core.Path.{_≡_, refl, ap, _∙_}
 use mathlib.Core.List.{List, [], _∷_, map}
-use Prim.Native.Nat.{ℕ, suc}
-use lib.ListN.{length, length-map}
+use Prim.Native.Nat.{ℕ, zero, suc, _+_, _≤_}
+use native.Mathlib.Omega.{arith}
+use lib.ListN.{length, length-map, take, drop}
+use lib.Seq.{take-take}
 use Rattle.operations.specs.Kind.{Use, asRow, asNumber, unused, Kind}
 use Rattle.operations.specs.Record.{used, operands}
 use Rattle.operations.specs.Result.{arity}
@@ -10,6 +12,13 @@ use Rattle.operations.specs.Result.{arity}
 pub map-map : {A B C : Type 0} (g : B → C) (f : A → B) (l : List A) → map g (map f l) ≡ map (λ a. g (f a)) l
 map-map g f [] = refl
 map-map g f (a ∷ l) = let e = map-map g f l in λ ι. g (f a) ∷ e ι
+
+-- a stretch inside a part of a list is that stretch of the list
+pub inside-part : (n k m : ℕ) (l : List ℕ) → k + n ≤ m → take n (drop k (take m l)) ≡ take n (drop k l)
+inside-part n zero m l h = take-take n m l (omega arith)
+inside-part n (suc k) zero l h = absurd (omega arith)
+inside-part n (suc k) (suc m) [] h = refl
+inside-part n (suc k) (suc m) (a ∷ l) h = inside-part n k m l (omega arith)
 
 with-length : (u : Use) (word word′ : ℕ) (l m : List ℕ) → length l ≡ length m → length (used u word l) ≡ length (used u word′ m)
 with-length asRow word word′ l m e = ap suc e

@@ -1,8 +1,9 @@
 -- A record's step as the code makes it: the rows that its words name, the kernel's result, and the one row written. Assumes nothing.
 use mathlib.Core.Path.{_≡_, refl, sym, ap, _∙_, subst, subst₂, transport}
-use mathlib.Core.Bool.{Bool, true, false, _&&_}
+use mathlib.Core.Bool.{_&&_}
 use mathlib.Core.List.{List, [], _∷_, map}
 use Prim.Native.Nat.{ℕ, _≤_, _<_}
+use native.Mathlib.Omega.{arith}
 use lib.Dec.{T, eqb, eqb→eq}
 use lib.ListN.{length, getD, set}
 use Rattle.bits.proofs.Bools.{T-left, T-right}
@@ -12,7 +13,8 @@ use Rattle.vectors.specs.Best.{best}
 use Rattle.vectors.proofs.Lists.{all-map}
 use Rattle.operations.specs.Kind.{asks, Use, asRow, asNumber, unused, Rule}
 use Rattle.operations.specs.Kinds.{isKind, kindOf}
-use Rattle.operations.specs.Record.{widthAt, used, operands, rowsNamed, effectOf, effectsOf}
+use Rattle.operations.specs.declared.Record.{Record}
+use Rattle.operations.specs.Record.{wordsOf, widthAt, used, operands, rowsNamed, effectOf, effectsOf}
 use Rattle.operations.specs.Result.{widthsOf, resultOf, Ready}
 use Rattle.operations.proofs.Sound.{isRow, row-is, suits, first-is-row, rule-suits, condition-chosen}
 use Rattle.bits.specs.Limits.{widthLimit}
@@ -50,115 +52,142 @@ used-same asRow word t = refl
 used-same asNumber word t = absurd t
 used-same unused word t = absurd t
 
-module _ (widths : List ℕ) (s : State) (kind t a b p : ℕ) (R : StepReady widths s (kind ∷ t ∷ a ∷ b ∷ p ∷ [])) where
-  abbrev words : List ℕ
-  words = kind ∷ t ∷ a ∷ b ∷ p ∷ []
+-- what the code reads for a record: the rows t, a, b and p (0 where b or p is no row), and the widths of the first three
+pub record Loaded (widths : List ℕ) (r : Record) (i j k l wt wa wb : ℕ) : Type 0 where
+  pub target : i ≡ r .t
+  pub first : j ≡ r .a
+  pub second : k ≡ usedRow (kindOf (r .kind) .use-b) (r .b)
+  pub condition : l ≡ usedRow (kindOf (r .kind) .use-p) (r .p)
+  pub target-width : wt ≡ widthAt widths i
+  pub first-width : wa ≡ widthAt widths j
+  pub second-width : wb ≡ widthAt widths k
 
+pub record Present (widths : List ℕ) (s : State) (j k l : ℕ) : Type 0 where
+  pub masks : length (s .masks) ≡ length widths
+  pub values : length (s .values) ≡ length widths
+  pub first : j < length widths
+  pub second : k < length widths
+  pub condition : l < length widths
+
+module _ (widths : List ℕ) (s : State) (r : Record) (R : StepReady widths s (wordsOf r)) where
   abbrev ib : ℕ
-  ib = usedRow (kindOf kind .use-b) b
+  ib = usedRow (kindOf (r .kind) .use-b) (r .b)
 
   abbrev ip : ℕ
-  ip = usedRow (kindOf kind .use-p) p
+  ip = usedRow (kindOf (r .kind) .use-p) (r .p)
 
-  pub kind-in : T (isKind kind)
+  pub kind-in : T (isKind (r .kind))
   kind-in = R .passed .kind-known
 
-  first-part : (usedRow (kindOf kind .use-a) a < length widths) × All (λ i. i < length widths) (used (kindOf kind .use-b) b (used (kindOf kind .use-p) p []))
+  first-part : (usedRow (kindOf (r .kind) .use-a) (r .a) < length widths) × All (λ i. i < length widths) (used (kindOf (r .kind) .use-b) (r .b) (used (kindOf (r .kind) .use-p) (r .p) []))
   unfolding rowsNamed
-  first-part = used-in (kindOf kind .use-a) (length widths) a _ (R .some-row) (R .passed .operands-in)
+  first-part = used-in (kindOf (r .kind) .use-a) (length widths) (r .a) _ (R .some-row) (R .passed .operands-in)
 
-  second-part : (ib < length widths) × All (λ i. i < length widths) (used (kindOf kind .use-p) p [])
-  second-part = used-in (kindOf kind .use-b) (length widths) b _ (R .some-row) (first-part .1)
+  second-part : (ib < length widths) × All (λ i. i < length widths) (used (kindOf (r .kind) .use-p) (r .p) [])
+  second-part = used-in (kindOf (r .kind) .use-b) (length widths) (r .b) _ (R .some-row) (first-part .1)
 
-  pub first-in : a < length widths
-  first-in = subst (λ (u : Use). usedRow u a < length widths) (first-is-row kind kind-in) (first-part .0)
+  pub first-in : r .a < length widths
+  first-in = subst (λ (u : Use). usedRow u (r .a) < length widths) (first-is-row (r .kind) kind-in) (first-part .0)
 
   pub second-in : ib < length widths
   second-in = second-part .0
 
   pub condition-in : ip < length widths
-  condition-in = used-in (kindOf kind .use-p) (length widths) p [] (R .some-row) (second-part .1) .0
+  condition-in = used-in (kindOf (r .kind) .use-p) (length widths) (r .p) [] (R .some-row) (second-part .1) .0
 
   -- the rows that the kernel is given
   abbrev pub given : List Row
-  given = operands (kindOf kind) (rowAt widths s a) (rowAt widths s ib) (row 1 (getD (s .masks) ip 0) (getD (s .values) ip 0))
+  given = operands (kindOf (r .kind)) (rowAt widths s (r .a)) (rowAt widths s ib) (row 1 (getD (s .masks) ip 0) (getD (s .values) ip 0))
 
-  rows-are : given ≡ map (rowAt widths s) (rowsNamed words)
+  rows-are : given ≡ map (rowAt widths s) (rowsNamed (wordsOf r))
   unfolding rowsNamed
   rows-are =
-      used-map (rowAt widths s) (kindOf kind .use-a) a (rowAt widths s a) _ (used (kindOf kind .use-b) b (used (kindOf kind .use-p) p [])) (λ u. refl)
-      (used-map (rowAt widths s) (kindOf kind .use-b) b (rowAt widths s ib) _ (used (kindOf kind .use-p) p []) (λ u. ap (rowAt widths s) (used-same (kindOf kind .use-b) b u))
-      (used-map (rowAt widths s) (kindOf kind .use-p) p (row 1 (getD (s .masks) ip 0) (getD (s .values) ip 0)) [] [] condition refl))
+      used-map (rowAt widths s) (kindOf (r .kind) .use-a) (r .a) (rowAt widths s (r .a)) _ (used (kindOf (r .kind) .use-b) (r .b) (used (kindOf (r .kind) .use-p) (r .p) [])) (λ u. refl)
+      (used-map (rowAt widths s) (kindOf (r .kind) .use-b) (r .b) (rowAt widths s ib) _ (used (kindOf (r .kind) .use-p) (r .p) []) (λ u. ap (rowAt widths s) (used-same (kindOf (r .kind) .use-b) (r .b) u))
+      (used-map (rowAt widths s) (kindOf (r .kind) .use-p) (r .p) (row 1 (getD (s .masks) ip 0) (getD (s .values) ip 0)) [] [] condition refl))
     where
-      condition : T (isRow (kindOf kind .use-p)) → row 1 (getD (s .masks) ip 0) (getD (s .values) ip 0) ≡ rowAt widths s p
+      condition : T (isRow (kindOf (r .kind) .use-p)) → row 1 (getD (s .masks) ip 0) (getD (s .values) ip 0) ≡ rowAt widths s (r .p)
       condition u =
-          let e = sym (one-bit kind kind-in u widths (widthAt widths t) a b p (R .passed .widths-fit)) in
-          let f = used-same (kindOf kind .use-p) p u in
+          let e = sym (one-bit (r .kind) kind-in u widths (widthAt widths (r .t)) (r .a) (r .b) (r .p) (R .passed .widths-fit)) in
+          let f = used-same (kindOf (r .kind) .use-p) (r .p) u in
           λ ι. row (e ι) (getD (s .masks) (f ι) 0) (getD (s .values) (f ι) 0)
 
-  widths-are : widthsOf (map (rowAt widths s) (rowsNamed words)) ≡ map (widthAt widths) (rowsNamed words)
-  widths-are = map-map (λ (r : Row). r .width) (rowAt widths s) (rowsNamed words)
+  widths-are : widthsOf (map (rowAt widths s) (rowsNamed (wordsOf r))) ≡ map (widthAt widths) (rowsNamed (wordsOf r))
+  widths-are = map-map (λ (q : Row). q .width) (rowAt widths s) (rowsNamed (wordsOf r))
 
-  pub ready : Ready (kindOf kind) (widthAt widths t) p given
+  pub ready : Ready (kindOf (r .kind)) (widthAt widths (r .t)) (r .p) given
   unfolding rowsNamed
-  ready = subst (Ready (kindOf kind) (widthAt widths t) p) (sym rows-are) named
+  ready = subst (Ready (kindOf (r .kind)) (widthAt widths (r .t)) (r .p)) (sym rows-are) named
     where
-      named : Ready (kindOf kind) (widthAt widths t) p (map (rowAt widths s) (rowsNamed words))
+      named : Ready (kindOf (r .kind)) (widthAt widths (r .t)) (r .p) (map (rowAt widths s) (rowsNamed (wordsOf r)))
       named =
           record {
-            count = operands-count (rowAt widths s) (kindOf kind) a b p;
-            formed = all-map WellFormed (rowAt widths s) (R .fits .formed) (rowsNamed words) (R .passed .operands-in);
-            wide = R .wide t (R .passed .target-in) .0;
-            widths = all-map (λ (r : Row). 1 ≤ r .width) (rowAt widths s) (λ i h. R .wide i h .0) (rowsNamed words) (R .passed .operands-in);
-            fits = subst (λ (l : List ℕ). T (asks (kindOf kind .rule) (widthAt widths t) l p)) (sym widths-are) (R .passed .widths-fit);
+            count = operands-count (rowAt widths s) (kindOf (r .kind)) (r .a) (r .b) (r .p);
+            formed = all-map WellFormed (rowAt widths s) (R .fits .formed) (rowsNamed (wordsOf r)) (R .passed .operands-in);
+            wide = R .wide (r .t) (R .passed .target-in) .0;
+            widths = all-map (λ (q : Row). 1 ≤ q .width) (rowAt widths s) (λ i h. R .wide i h .0) (rowsNamed (wordsOf r)) (R .passed .operands-in);
+            fits = subst (λ (l : List ℕ). T (asks (kindOf (r .kind) .rule) (widthAt widths (r .t)) l (r .p))) (sym widths-are) (R .passed .widths-fit);
             parameter = R .passed .parameter-used;
           }
 
-  pub target-wide : widthAt widths t ≤ widthLimit
-  target-wide = R .wide t (R .passed .target-in) .1
+  pub target-wide : widthAt widths (r .t) ≤ widthLimit
+  target-wide = R .wide (r .t) (R .passed .target-in) .1
 
-  pub first-wide : widthAt widths a ≤ widthLimit
-  first-wide = R .wide a first-in .1
+  pub first-wide : widthAt widths (r .a) ≤ widthLimit
+  first-wide = R .wide (r .a) first-in .1
 
-  result-is : resultOf (kindOf kind) (widthAt widths t) p given ≡ result widths s (effectOf widths words)
+  result-is : resultOf (kindOf (r .kind)) (widthAt widths (r .t)) (r .p) given ≡ result widths s (effectOf widths (wordsOf r))
   unfolding resultOf effectOf
   result-is =
-      ap (resultOf (kindOf kind) (widthAt widths t) p) rows-are
-      ∙ ap (λ (l : List ℕ). best (widthAt widths t) (kindOf kind .plain (widthAt widths t) l p) (map (rowAt widths s) (rowsNamed words))) widths-are
+      ap (resultOf (kindOf (r .kind)) (widthAt widths (r .t)) (r .p)) rows-are
+      ∙ ap (λ (l : List ℕ). best (widthAt widths (r .t)) (kindOf (r .kind) .plain (widthAt widths (r .t)) l (r .p)) (map (rowAt widths s) (rowsNamed (wordsOf r)))) widths-are
 
   -- the two planes written are the step
-  pub step-is : (m v : ℕ) → row (widthAt widths t) m v ≡ resultOf (kindOf kind) (widthAt widths t) p given
-      → _≡_ {A = State} (record { masks = set (s .masks) t m; values = set (s .values) t v }) (step widths (effectsOf widths words) s)
+  pub step-is : (m v : ℕ) → row (widthAt widths (r .t)) m v ≡ resultOf (kindOf (r .kind)) (widthAt widths (r .t)) (r .p) given
+      → _≡_ {A = State} (record { masks = set (s .masks) (r .t) m; values = set (s .values) (r .t) v }) (step widths (effectsOf widths (wordsOf r)) s)
   unfolding step effectsOf effectOf
   step-is m v e =
-      let r = e ∙ result-is in
-      λ ι. record { masks = set (s .masks) t (r ι .mask); values = set (s .values) t (r ι .value) }
+      let q = e ∙ result-is in
+      λ ι. record { masks = set (s .masks) (r .t) (q ι .mask); values = set (s .values) (r .t) (q ι .value) }
 
   -- ---- the same under the code's names for these numbers
 
-  module _ (i j k l wt wa wb : ℕ) (ei : i ≡ t) (ej : j ≡ a) (ek : k ≡ ib) (el : l ≡ ip) (ewt : wt ≡ getD widths i 0) (ewa : wa ≡ getD widths j 0) (ewb : wb ≡ getD widths k 0) where
-    abbrev handed : List Row
-    handed = operands (kindOf kind) (row wa (getD (s .masks) j 0) (getD (s .values) j 0)) (row wb (getD (s .masks) k 0) (getD (s .values) k 0)) (row 1 (getD (s .masks) l 0) (getD (s .values) l 0))
+  module _ {i j k l wt wa wb : ℕ} (H : Loaded widths r i j k l wt wa wb) where
+    target-width : wt ≡ widthAt widths (r .t)
+    target-width = H .target-width ∙ ap (widthAt widths) (H .target)
 
-    target-width : wt ≡ widthAt widths t
-    target-width = ewt ∙ ap (widthAt widths) ei
+    first-width : wa ≡ widthAt widths (r .a)
+    first-width = H .first-width ∙ ap (widthAt widths) (H .first)
+
+    -- the rows are there, in both planes
+    pub present : Present widths s j k l
+    present =
+        record {
+          masks = R .fits .masks-length;
+          values = R .fits .values-length;
+          first = let h = first-in in let e = H .first in omega arith;
+          second = let h = second-in in let e = H .second in omega arith;
+          condition = let h = condition-in in let e = H .condition in omega arith;
+        }
+
+    abbrev handed : List Row
+    handed = operands (kindOf (r .kind)) (row wa (getD (s .masks) j 0) (getD (s .values) j 0)) (row wb (getD (s .masks) k 0) (getD (s .values) k 0)) (row 1 (getD (s .masks) l 0) (getD (s .values) l 0))
 
     handed-given : handed ≡ given
     handed-given =
-        let u = ewa ∙ ap (widthAt widths) ej in
-        let v = ewb ∙ ap (widthAt widths) ek in
-        λ ι. operands (kindOf kind) (row (u ι) (getD (s .masks) (ej ι) 0) (getD (s .values) (ej ι) 0)) (row (v ι) (getD (s .masks) (ek ι) 0) (getD (s .values) (ek ι) 0)) (row 1 (getD (s .masks) (el ι) 0) (getD (s .values) (el ι) 0))
+        let second-width = H .second-width ∙ ap (widthAt widths) (H .second) in
+        λ ι. operands (kindOf (r .kind)) (row (first-width ι) (getD (s .masks) (H .first ι) 0) (getD (s .values) (H .first ι) 0)) (row (second-width ι) (getD (s .masks) (H .second ι) 0) (getD (s .values) (H .second ι) 0)) (row 1 (getD (s .masks) (H .condition ι) 0) (getD (s .values) (H .condition ι) 0))
 
-    pub code-ready : T (isKind kind) × (wt ≤ widthLimit) × (wa ≤ widthLimit) × Ready (kindOf kind) wt p handed
+    pub code-ready : T (isKind (r .kind)) × (wt ≤ widthLimit) × (wa ≤ widthLimit) × Ready (kindOf (r .kind)) wt (r .p) handed
     code-ready = (
       kind-in,
       subst (λ (x : ℕ). x ≤ widthLimit) (sym target-width) target-wide,
-      subst (λ (x : ℕ). x ≤ widthLimit) (sym (ewa ∙ ap (widthAt widths) ej)) first-wide,
-      subst₂ (λ (x : ℕ) (r : List Row). Ready (kindOf kind) x p r) (sym target-width) (sym handed-given) ready,
+      subst (λ (x : ℕ). x ≤ widthLimit) (sym first-width) first-wide,
+      subst₂ (λ (x : ℕ) (rows : List Row). Ready (kindOf (r .kind)) x (r .p) rows) (sym target-width) (sym handed-given) ready,
     )
 
-    pub code-step : (m v : ℕ) → row wt m v ≡ resultOf (kindOf kind) wt p handed
-        → _≡_ {A = State} (record { masks = set (s .masks) i m; values = set (s .values) i v }) (step widths (effectsOf widths words) s)
+    pub code-step : (m v : ℕ) → row wt m v ≡ resultOf (kindOf (r .kind)) wt (r .p) handed
+        → _≡_ {A = State} (record { masks = set (s .masks) i m; values = set (s .values) i v }) (step widths (effectsOf widths (wordsOf r)) s)
     code-step m v e =
-        (λ ι. record { masks = set (s .masks) (ei ι) m; values = set (s .values) (ei ι) v })
-        ∙ step-is m v ((λ ι. row (sym target-width ι) m v) ∙ e ∙ (λ ι. resultOf (kindOf kind) (target-width ι) p (handed-given ι)))
+        (λ ι. record { masks = set (s .masks) (H .target ι) m; values = set (s .values) (H .target ι) v })
+        ∙ step-is m v ((λ ι. row (sym target-width ι) m v) ∙ e ∙ (λ ι. resultOf (kindOf (r .kind)) (target-width ι) (r .p) (handed-given ι)))

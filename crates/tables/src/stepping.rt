@@ -1,12 +1,13 @@
 // What records do to the rows.
 ghost use mathlib.Core.Path.{_≡_};
-ghost use mathlib.Core.List.{[], _∷_};
+ghost use mathlib.Core.List.{[]};
 ghost use Prim.Native.Nat.{_/_};
 ghost use lib.ListN.{length};
 ghost use lib.Dec.{T};
 ghost use Rattle.operations.specs.Kind.{Use};
 ghost use Rattle.operations.specs.Kinds.{isKind, kindOf};
-ghost use Rattle.operations.specs.Record.{effectsOf};
+ghost use Rattle.operations.specs.Limits.{recordWords};
+ghost use Rattle.operations.specs.Record.{wordsOf, effectsOf};
 ghost use Rattle.checks.specs.Model.{lent};
 ghost use Rattle.operations.specs.Encoding.{useCode};
 ghost use Rattle.tables.specs.Step.{after};
@@ -15,8 +16,10 @@ ghost use Rattle.tables.specs.Run.{programOf};
 ghost use Rattle.tables.specs.Model.{held};
 ghost use Rattle.tables.specs.Encoding.{usedRow, StepReady, StretchReady};
 use checks::records::index;
+use checks::records::record_at;
 use checks::rows::wide;
 use operations::RECORD_WORDS;
+use operations::Record;
 use operations::parameter_use;
 use operations::second_use;
 
@@ -31,43 +34,36 @@ fn used_row(code: u64, word: u32) -> usize
 }
 
 // The rows that the words b and p name, 0 where they name none.
-fn second_row(kind: u32, b: u32) -> usize
-    requires { ⌜ T (isKind kind) ⌝ }
-    ensures { λ r. ⌜ r ≡ usedRow (kindOf kind .use-b) b ⌝ }
+fn second_row(r: Record) -> usize
+    requires { ⌜ T (isKind (r .kind)) ⌝ }
+    ensures { λ i. ⌜ i ≡ usedRow (kindOf (r .kind) .use-b) (r .b) ⌝ }
 {
-    used_row(second_use(kind), b)
+    used_row(second_use(r.kind), r.b)
 }
 
-fn condition_row(kind: u32, p: u32) -> usize
-    requires { ⌜ T (isKind kind) ⌝ }
-    ensures { λ r. ⌜ r ≡ usedRow (kindOf kind .use-p) p ⌝ }
+fn condition_row(r: Record) -> usize
+    requires { ⌜ T (isKind (r .kind)) ⌝ }
+    ensures { λ i. ⌜ i ≡ usedRow (kindOf (r .kind) .use-p) (r .p) ⌝ }
 {
-    used_row(parameter_use(kind), p)
+    used_row(parameter_use(r.kind), r.p)
 }
 
 // One record: all operands are read, then the target's mask and value are written.
-fn step(
-    width: &[u8],
-    mask: &mut [u32],
-    value: &mut [u32],
-    kind: u32,
-    t: u32,
-    a: u32,
-    b: u32,
-    p: u32,
-)
-    requires { ⌜ StepReady (now width) (held (now mask) (now value)) (kind ∷ t ∷ a ∷ b ∷ p ∷ []) ⌝ }
-    ensures { λ _. ⌜ held (now (mask .exit)) (now (value .exit)) ≡ Step.step (now (width .entry)) (effectsOf (now (width .entry)) (kind ∷ t ∷ a ∷ b ∷ p ∷ [])) (held (now (mask .entry)) (now (value .entry))) ⌝ }
+fn step(width: &[u8], mask: &mut [u32], value: &mut [u32], r: Record)
+    requires { ⌜ StepReady (now width) (held (now mask) (now value)) (wordsOf r) ⌝ }
+    ensures { λ _.
+        let effects = effectsOf (now (width .entry)) (wordsOf r) in
+        ⌜ held (now (mask .exit)) (now (value .exit)) ≡ Step.step (now (width .entry)) effects (held (now (mask .entry)) (now (value .entry))) ⌝ }
 {
-    let i = index(t);
-    let j = index(a);
-    let k = second_row(kind, b);
-    let l = condition_row(kind, p);
+    let i = index(r.t);
+    let j = index(r.a);
+    let k = second_row(r);
+    let l = condition_row(r);
     let wt = wide(width[i]);
     let wa = wide(width[j]);
     let wb = wide(width[k]);
-    let r = kernels::apply(
-        kind,
+    let planes = kernels::apply(
+        r.kind,
         wt,
         wa,
         wb,
@@ -77,31 +73,24 @@ fn step(
         value[k],
         mask[l],
         value[l],
-        p,
+        r.p,
     );
-    mask[i] = r.mask;
-    value[i] = r.value;
+    mask[i] = planes.mask;
+    value[i] = planes.value;
 }
 
 // The records of a part of the words, one after another.
 pub fn step_all(width: &[u8], mask: &mut [u32], value: &mut [u32], words: &[u32])
     requires { ⌜ StretchReady (now width) (held (now mask) (now value)) (now words) ⌝ }
-    ensures { λ _. ⌜ held (now (mask .exit)) (now (value .exit)) ≡ after (programOf (lent (now (width .entry)) [] [] [] (now (words .entry)))) 0 (length (now (words .entry)) / 5) (held (now (mask .entry)) (now (value .entry))) ⌝ }
+    ensures { λ _.
+        let program = programOf (lent (now (width .entry)) [] [] [] (now (words .entry))) in
+        let start = held (now (mask .entry)) (now (value .entry)) in
+        ⌜ held (now (mask .exit)) (now (value .exit)) ≡ after program 0 (length (now (words .entry)) / recordWords) start ⌝ }
 {
     let n = words.len() / RECORD_WORDS;
     let mut i: usize = 0;
     while i < n {
-        let k = RECORD_WORDS * i;
-        step(
-            width,
-            mask,
-            value,
-            words[k],
-            words[k + 1],
-            words[k + 2],
-            words[k + 3],
-            words[k + 4],
-        );
+        step(width, mask, value, record_at(words, i));
         i += 1;
     }
 }

@@ -1,6 +1,7 @@
 -- `checks::described::word_outside` meets its contract, whatever the use that the code stands for. Assumes nothing.
 use mathlib.Core.Path.{refl}
 use native.Mathlib.Omega.{arith}
+use borrow.Author.Needs.{needs}
 use Rattle.operations.specs.Kind.{asRow, asNumber, unused}
 use Rattle.checks.proofs.described.word_outside.Statement.{statement}
 use Rattle.checks.proofs.described.word_outside.Tie as tie
@@ -11,9 +12,9 @@ returns c asNumber e = refl
 returns c unused e = refl
 
 returns-2 : tie.Need-returns-2
-returns-2 c asRow e = refl
-returns-2 c asNumber e = absurd (let z = c .if1 .left in omega arith)
-returns-2 c unused e = absurd (let z = c .if1 .left in omega arith)
+returns-2 c asRow e = c .row-outside .ensures
+returns-2 c asNumber e = absurd (let z = c .before .if1 .left in omega arith)
+returns-2 c unused e = absurd (let z = c .before .if1 .left in omega arith)
 
 pub word-outside-spec : {M : Type 1} → statement M
-word-outside-spec = tie.close (tie.spec returns returns-2)
+word-outside-spec = tie.close (tie.spec returns (λ c κs. search needs) returns-2)

@@ -7,31 +7,24 @@ use borrow.Author.Needs.{needs}
 use Rattle.checks.proofs.records.check_lock.Statement.{statement}
 use Rattle.checks.proofs.records.check_lock.Tie as tie
 
-index-requires : tie.Need-index-requires
-index-requires c κs = search needs
-
-shared-slice-read-if2 : tie.Need-shared-slice-read-if2
-shared-slice-read-if2 c = search needs
-
-refuse-requires : tie.Need-refuse-requires
-refuse-requires c κs = search needs
-
 returns : tie.Need-returns
 returns c =
-    let a = c .before .before .before .before .before .before .args in
-    c .refuse .ensures ∙ sym (lock-refused (a .locked) (a .lock .now) (a .t) (a .i) (c .before .before .before .before .if1 .taken) (ap (λ (x : ℕ). getD (a .lock .now) x 0) (sym (c .before .before .before .index .ensures)) ∙ c .before .if2 .taken))
+    let j = c .before .before .before in
+    let a = j .before .before .before .args in
+    c .refuse .ensures ∙ sym (lock-refused (a .locked) (a .lock .now) (a .r) (a .i) (j .before .if1 .taken) (ap (λ (x : ℕ). getD (a .lock .now) x 0) (sym (j .index .ensures)) ∙ c .before .if2 .taken))
 
 returns-2 : tie.Need-returns-2
 returns-2 c =
-    let a = c .before .before .before .before .before .args in
-    sym (lock-open (a .locked) (a .lock .now) (a .t) (a .i) (c .before .before .before .if1 .taken) (λ e. c .if2 .left (ap (λ (x : ℕ). getD (a .lock .now) x 0) (c .before .before .index .ensures) ∙ e)))
+    let j = c .before .before in
+    let a = j .before .before .before .args in
+    sym (lock-open (a .locked) (a .lock .now) (a .r) (a .i) (j .before .if1 .taken) (λ e. c .if2 .left (ap (λ (x : ℕ). getD (a .lock .now) x 0) (j .index .ensures) ∙ e)))
 
 returns-3 : tie.Need-returns-3
 returns-3 c =
     let a = c .before .before .args in
-    sym (lock-unasked (a .locked) (a .lock .now) (a .t) (a .i) (c .if1 .left))
+    sym (lock-unasked (a .locked) (a .lock .now) (a .r) (a .i) (c .if1 .left))
 
 pub check-lock-spec : {M : Type 1} → statement M
 check-lock-spec =
     tie.close
-    (tie.spec index-requires shared-slice-read-if2 refuse-requires returns returns-2 returns-3)
+    (tie.spec (λ c κs. search needs) (λ c. search needs) (λ c κs. search needs) returns returns-2 returns-3)

@@ -1,22 +1,21 @@
 -- `checks::records::record_fits` meets its contract: the widths of the rows that the words name. Assumes nothing.
-use mathlib.Core.Path.{_≡_, sym, ap, _∙_}
+use mathlib.Core.Path.{ap, _∙_}
 use mathlib.Core.List.{[], _∷_}
-use Prim.Native.Nat.{ℕ, _≤_}
 use native.Mathlib.Omega.{arith}
 use lib.ListN.{length}
 use borrow.Author.Needs.{needs}
-use Rattle.operations.specs.Kind.{asks, asRow}
+use Rattle.operations.specs.Kind.{asks}
 use Rattle.operations.specs.Kinds.{kindOf}
 use Rattle.operations.specs.Record.{widthAt}
-use Rattle.operations.specs.Encoding.{ruleCode, ruleNumbered}
+use Rattle.operations.specs.Encoding.{ruleNumbered}
 use Rattle.operations.proofs.Digits.{code-below}
 use Rattle.checks.proofs.Naming.{NamedFacts, named-facts}
 use Rattle.checks.proofs.Rules.{reads-of, fits-of}
 use Rattle.checks.proofs.records.record_fits.Statement.{statement}
 use Rattle.checks.proofs.records.record_fits.Tie as tie
 
-facts : (s : tie.Start) → NamedFacts (length (s .args .width .now)) (s .args .kind) (s .args .t) (s .args .a) (s .args .b) (s .args .p)
-facts s = named-facts (length (s .args .width .now)) (s .args .kind) (s .args .t) (s .args .a) (s .args .b) (s .args .p) (s .pre)
+facts : (s : tie.Start) → NamedFacts (length (s .args .width .now)) (s .args .r)
+facts s = named-facts (length (s .args .width .now)) (s .args .r) (s .pre)
 
 width-at-requires : tie.Need-width-at-requires
 width-at-requires c κs = let h = facts (c .before .before) .target-in in omega (arith, c .index .ensures)
@@ -34,7 +33,7 @@ rule-fits-requires c κs =
     let w1 = w2 .before .before in
     let s = w1 .before .before .before in
     let f = facts s in
-    let h = code-below (kindOf (s .args .kind) .rule) in
+    let h = code-below (kindOf (s .args .r .kind) .rule) in
     let e = r .rule .ensures in
     let eb = c .before .index3 .ensures in
     let ep = c .index4 .ensures in
@@ -43,7 +42,7 @@ rule-fits-requires c κs =
       w1 .width-at .ensures .0,
       w2 .width-at2 .ensures .0,
       omega arith,
-      reads-of (s .args .kind) (f .known) (r .rule .result) e (length (s .args .width .now)) (c .before .index3 .result) (c .index4 .result) (λ u. let z = f .second-in u in omega arith) (λ u. let z = f .parameter-in u in omega arith),
+      reads-of (s .args .r .kind) (f .known) (r .rule .result) e (length (s .args .width .now)) (c .before .index3 .result) (c .index4 .result) (λ u. let z = f .second-in u in omega arith) (λ u. let z = f .parameter-in u in omega arith),
     )
 
 returns : tie.Need-returns
@@ -57,7 +56,7 @@ returns c =
     let ws = a .width .now in
     let et = w1 .width-at .ensures .1 ∙ ap (widthAt ws) (w1 .before .index .ensures) in
     let ea = w2 .width-at2 .ensures .1 ∙ ap (widthAt ws) (w2 .before .index2 .ensures) in
-    fits-of (a .kind) (facts s .known) (r .rule .result) (r .rule .ensures) ws (a .t) (a .a) (a .b) (a .p) (c .rule-fits .result)
+    fits-of (a .r .kind) (facts s .known) (r .rule .result) (r .rule .ensures) ws (a .r .t) (a .r .a) (a .r .b) (a .r .p) (c .rule-fits .result)
     (c .rule-fits .ensures
     ∙ (λ ι. asks (ruleNumbered (r .rule .result)) (et ι) (ea ι ∷ widthAt ws (i4 .before .index3 .ensures ι) ∷ widthAt ws (i4 .index4 .ensures ι) ∷ []) (i4 .index4 .ensures ι)))
 

@@ -5,7 +5,7 @@ use Rattle.checks.proofs.records.second_misused.Statement.{statement}
 use Rattle.checks.proofs.records.second_misused.Tie as tie
 
 returns : tie.Need-returns
-returns c = c .word-misused .ensures (kindOf (c .before .before .args .kind) .use-b) (c .before .second-use .ensures)
+returns c = c .word-misused .ensures (kindOf (c .before .before .args .r .kind) .use-b) (c .before .second-use .ensures)
 
 pub second-misused-spec : {M : Type 1} → statement M
 second-misused-spec = tie.close (tie.spec (λ c κs. search needs) (λ c κs. search needs) returns)

@@ -5,7 +5,7 @@ use Rattle.checks.proofs.records.second_outside.Statement.{statement}
 use Rattle.checks.proofs.records.second_outside.Tie as tie
 
 returns : tie.Need-returns
-returns c = c .word-outside .ensures (kindOf (c .before .before .args .kind) .use-b) (c .before .second-use .ensures)
+returns c = c .word-outside .ensures (kindOf (c .before .before .args .r .kind) .use-b) (c .before .second-use .ensures)
 
 pub second-outside-spec : {M : Type 1} → statement M
 second-outside-spec = tie.close (tie.spec (λ c κs. search needs) (λ c κs. search needs) returns)

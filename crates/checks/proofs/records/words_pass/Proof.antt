@@ -1,31 +1,39 @@
 -- `checks::records::words_pass` meets its contract: each word is below its limit. Assumes nothing.
-use mathlib.Core.Path.{_≡_, sym, ap, subst, _∙_}
-use mathlib.Core.Bool.{Bool, true, false}
-use Prim.Native.Nat.{ℕ, _<_}
+use mathlib.Core.Path.{_≡_, sym, subst, _∙_}
+use mathlib.Core.Bool.{true, false}
 use borrow.Author.Needs.{needs}
-use lib.Dec.{T, ltb, ltb→lt}
-use Rattle.operations.specs.Kinds.{kindOf}
-use Rattle.checks.proofs.Naming.{passes, is-known, no-pass}
+use borrow.Author.Tests.{not-false}
+use lib.Dec.{T}
+use Rattle.operations.specs.Kinds.{isKind, kindOf}
+use Rattle.checks.proofs.Naming.{kind-in, passes}
 use Rattle.checks.proofs.records.words_pass.Statement.{statement}
 use Rattle.checks.proofs.records.words_pass.Tie as tie
 
+no-pass : {A : Type 0} → false ≡ true → A
+no-pass e = absurd (subst T (sym e) tt)
+
+known : (c : tie.Else1) → T (isKind (c .before .before .args .r .kind))
+known c = kind-in (c .before .before .args .r .kind) (c .before .is-kind .result) (c .before .is-kind .ensures) (c .if1 .left)
+
 second-use-requires : tie.Need-second-use-requires
-second-use-requires c κs = is-known (c .before .before .before .before .args .kind) (c .before .before .before .is-kind .result) (c .before .before .before .is-kind .ensures) (c .before .before .if1 .left)
+second-use-requires c κs = known (c .before .before .before .before)
 
 parameter-use-requires : tie.Need-parameter-use-requires
-parameter-use-requires c κs = is-known (c .before .before .before .before .before .before .before .args .kind) (c .before .before .before .before .before .before .is-kind .result) (c .before .before .before .before .before .before .is-kind .ensures) (c .before .before .before .before .before .if1 .left)
+parameter-use-requires c κs = known (c .before .before .before .before .before .before .before)
 
 returns-5 : tie.Need-returns-5
 returns-5 c e =
-    let c5 = c .before .before .before .before .before in
-    let s = c5 .before .before .before .before in
-    let a = s .args in
-    passes (a .n) (a .kind) (a .t) (a .a) (a .b) (a .p)
-    (is-known (c5 .before .before .before .before .args .kind) (c5 .before .before .before .is-kind .result) (c5 .before .before .before .is-kind .ensures) (c5 .before .before .if1 .left))
-    (c5 .before .if2 .left)
-    (c5 .if3 .left)
-    (subst (λ (x : ℕ). a .b < x) (c .before .before .before .word-limit .ensures (kindOf (a .kind) .use-b) (c .before .before .before .before .second-use .ensures)) (c .before .before .if4 .left))
-    (subst (λ (x : ℕ). a .p < x) (c .word-limit2 .ensures (kindOf (a .kind) .use-p) (c .before .parameter-use .ensures)) (ltb→lt (a .p) (c .word-limit2 .result) (subst T (sym e) tt)))
+    let c4 = c .before .before in
+    let c3 = c4 .before .before .before in
+    let c2 = c3 .before .before in
+    let c1 = c2 .before .before in
+    let a = c1 .before .before .args in
+    let k = kindOf (a .r .kind) in
+    passes (a .n) (a .r) (known c1)
+    (sym (c2 .before .row-outside .ensures) ∙ c2 .if2 .left)
+    (sym (c3 .before .row-outside2 .ensures) ∙ c3 .if3 .left)
+    (sym (c4 .before .word-within .ensures (k .use-b) (c4 .before .before .second-use .ensures)) ∙ not-false _ (c4 .if4 .left))
+    (sym (c .word-within2 .ensures (k .use-p) (c .before .parameter-use .ensures)) ∙ e)
 
 pub words-pass-spec : {M : Type 1} → statement M
 words-pass-spec =
@@ -33,7 +41,9 @@ words-pass-spec =
     (tie.spec
     (λ c κs. search needs)
     (λ c e. no-pass e)
+    (λ c κs. search needs)
     (λ c e. no-pass e)
+    (λ c κs. search needs)
     (λ c e. no-pass e)
     second-use-requires
     (λ c κs. search needs)

@@ -1,54 +1,61 @@
--- `checks::rows::check_row` meets its contract: checks 4 and 5, test by test. Assumes nothing.
-use borrow.Author.Tests.{eq-eqb, ne-eqb, lt-ltb, le-ltb, le-leb, lt-leb}
-use Rattle.checks.specs.Check.{verdict}
-use Rattle.checks.proofs.VerdictParts.{over-mask, under-mask}
+-- `checks::rows::check_row` meets its contract: 4 of the width, 4 of the lock, then 5. Assumes nothing.
+use mathlib.Core.Path.{_≡_, sym, ap, _∙_}
+use mathlib.Core.List.{List, _∷_}
+use borrow.Author.Tests.{lt-ltb, le-ltb}
+use lib.Dec.{nltb→le}
+use Rattle.operations.specs.Record.{fault}
+use Rattle.checks.specs.Check.{Check, placed}
+use Rattle.checks.specs.Checks.{lockOver, widthFaults, vectorFaults, rowFaults}
+use Rattle.checks.specs.Model.{verdictModel, judged}
+use Rattle.checks.proofs.Verdicts.{hits, skips, passed-of-done}
+use Rattle.checks.proofs.RowChecks.{positive}
+use Rattle.checks.proofs.VerdictParts.{goes-on, stops}
 use borrow.Author.Needs.{needs}
 use Rattle.checks.proofs.rows.check_row.Statement.{statement}
 use Rattle.checks.proofs.rows.check_row.Tie as tie
 
+-- the checks of the width, and those after it
+abbrev width : tie.Start → List Check
+width s = placed (s .args .i) (widthFaults (s .args .w))
+
+abbrev rest : tie.Start → List Check
+rest s = placed (s .args .i) (fault (lockOver (s .args .l)) 4 ∷ vectorFaults (s .args .w) (s .args .m) (s .args .v))
+
 returns : tie.Need-returns
-unfolding verdict
-returns c = simp (eq-eqb _ _ (c .before .if1 .taken)) (c .refuse .ensures)
+returns c =
+    let f = c .before .before in
+    let s = f .before in
+    ap verdictModel (c .enum-told .given .1) ∙ sym (stops (f .check-width .result) (width s) (rest s) (f .check-width .ensures) _ (c .enum-told .given .1))
+
+past-width : (c : tie.After-enum-told2) → let s = c .before .before .before in judged (placed (s .args .i) (rowFaults (s .args .w) (s .args .l) (s .args .m) (s .args .v))) ≡ judged (rest s)
+past-width c =
+    let f = c .before .before in
+    let s = f .before in
+    goes-on (f .check-width .result) (width s) (rest s) (f .check-width .ensures) (c .enum-told2 .given .1)
 
 returns-2 : tie.Need-returns-2
-unfolding verdict
-returns-2 c = simp (ne-eqb _ _ (c .before .before .if1 .left), lt-ltb _ _ (c .before .if2 .taken)) (c .refuse2 .ensures)
+returns-2 c = c .refuse .ensures ∙ sym (past-width (c .before .before) ∙ hits _ _ (lt-ltb _ _ (c .before .if1 .taken)))
+
+check-vector-requires : tie.Need-check-vector-requires
+check-vector-requires c κs =
+    let t = c .before in
+    let f = t .before .before in
+    let s = f .before in
+    let P = passed-of-done (width s) tt tt (sym (f .check-width .ensures) ∙ ap verdictModel (t .enum-told2 .given .1)) in
+    (positive (s .args .w) (P .0), nltb→le _ _ (P .1 .0))
 
 returns-3 : tie.Need-returns-3
-unfolding verdict
-returns-3 c = simp (ne-eqb _ _ (c .before .before .before .if1 .left), le-ltb _ _ (c .before .before .if2 .left), lt-ltb _ _ (c .before .if3 .taken)) (c .refuse3 .ensures)
-
-returns-4 : tie.Need-returns-4
-unfolding verdict
-returns-4 c = simp (ne-eqb _ _ (c .before .before .before .before .before .if1 .left), le-ltb _ _ (c .before .before .before .before .if2 .left), le-ltb _ _ (c .before .before .before .if3 .left), le-leb _ _ (over-mask _ _ _ (c .before .before .width-mask .ensures) (c .before .if4 .taken))) (c .refuse4 .ensures)
-
-returns-5 : tie.Need-returns-5
-unfolding verdict
-returns-5 c = simp (ne-eqb _ _ (c .before .before .before .before .before .before .if1 .left), le-ltb _ _ (c .before .before .before .before .before .if2 .left), le-ltb _ _ (c .before .before .before .before .if3 .left), lt-leb _ _ (under-mask _ _ _ (c .before .before .before .width-mask .ensures) (c .before .before .if4 .left)), le-leb _ _ (over-mask _ _ _ (c .before .before .before .width-mask .ensures) (c .before .if5 .taken))) (c .refuse5 .ensures)
-
-returns-6 : tie.Need-returns-6
-unfolding verdict
-returns-6 c = simp (ne-eqb _ _ (c .before .before .before .before .before .before .before .if1 .left), le-ltb _ _ (c .before .before .before .before .before .before .if2 .left), le-ltb _ _ (c .before .before .before .before .before .if3 .left), lt-leb _ _ (under-mask _ _ _ (c .before .before .before .before .width-mask .ensures) (c .before .before .before .if4 .left)), lt-leb _ _ (under-mask _ _ _ (c .before .before .before .before .width-mask .ensures) (c .before .before .if5 .left)), ne-eqb _ _ (c .before .if6 .taken)) (c .refuse6 .ensures)
-
-returns-7 : tie.Need-returns-7
-unfolding verdict
-returns-7 c = simp (ne-eqb _ _ (c .before .before .before .before .before .before .if1 .left), le-ltb _ _ (c .before .before .before .before .before .if2 .left), le-ltb _ _ (c .before .before .before .before .if3 .left), lt-leb _ _ (under-mask _ _ _ (c .before .before .before .width-mask .ensures) (c .before .before .if4 .left)), lt-leb _ _ (under-mask _ _ _ (c .before .before .before .width-mask .ensures) (c .before .if5 .left)), eq-eqb _ _ (c .if6 .left))
+returns-3 c = c .check-vector .ensures ∙ sym (past-width (c .before .before) ∙ skips _ _ (le-ltb _ _ (c .before .if1 .left)))
 
 pub check-row-spec : {M : Type 1} → statement M
 check-row-spec =
     tie.close
     (tie.spec
     (λ c κs. search needs)
+    (λ c. search needs)
     returns
+    (λ c. search needs)
     (λ c κs. search needs)
     returns-2
-    (λ c κs. search needs)
-    returns-3
-    (λ c κs. search needs)
-    (λ c κs. search needs)
-    returns-4
-    (λ c κs. search needs)
-    returns-5
-    (λ c κs. search needs)
-    returns-6
-    returns-7)
+    check-vector-requires
+    returns-3)

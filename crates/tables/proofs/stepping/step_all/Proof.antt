@@ -5,6 +5,8 @@ use mathlib.Core.Path.{_≡_, refl, sym, ap, _∙_}
 use mathlib.Core.List.{[]}
 use Prim.Native.Nat.{ℕ, _+_, _-_, _/_, _≤_}
 use lib.ListN.{length}
+use Rattle.operations.specs.Limits.{recordWords}
+use Rattle.checks.specs.Table.{State}
 use Rattle.checks.specs.Model.{lent}
 use Rattle.tables.specs.Step.{after}
 use Rattle.tables.specs.Run.{programOf}
@@ -15,34 +17,53 @@ use Rattle.tables.proofs.stepping.step_all.Tie as tie
 
 abbrev Inv-loop : tie.InvT-loop
 Inv-loop width mask₀ value₀ words n i₀ mask value i =
-    (length mask ≡ length mask₀) × (length value ≡ length value₀) × (i ≤ length words / 5) × (held mask value ≡ after (programOf (lent width [] [] [] words)) 0 i (held mask₀ value₀))
+    (length mask ≡ length mask₀)
+    × (length value ≡ length value₀)
+    × (i ≤ length words / recordWords)
+    × (held mask value ≡ after (programOf (lent width [] [] [] words)) 0 i (held mask₀ value₀))
 
 abbrev μ-loop : tie.MeasureT-loop
-μ-loop width mask₀ value₀ words n i₀ mask value i = length words / 5 - i
+μ-loop width mask₀ value₀ words n i₀ mask value i = length words / recordWords - i
 
 loop-holds : tie.Need-loop-holds Inv-loop μ-loop
 unfolding after
 loop-holds c = (refl, refl, omega arith, refl)
 
+-- ---- one turn
+
+abbrev turn : tie.After-record-at Inv-loop μ-loop → tie.In-loop Inv-loop μ-loop
+turn c = c .before .before .before
+
+abbrev start : tie.In-loop Inv-loop μ-loop → tie.Start Inv-loop μ-loop
+start c = c .before .before .before .before .before .before
+
+abbrev rows : tie.Start Inv-loop μ-loop → State
+rows s = held (s .args .mask .now) (s .args .value .now)
+
 step-requires : tie.Need-step-requires Inv-loop μ-loop
 step-requires c κs =
-    let a = c .before .before .before .before .before .before .before .before .before .before .before .before .before .args in
-    let l = c .before .before .before .before .before .before .before .before .loop in
-    turn-ready (a .width .now) (a .words .now) (held (a .mask .now) (a .value .now)) (c .before .before .before .before .before .before .before .before .before .before .before .before .before .pre) (l .i) (c .before .before .before .before .before .before .before .loop-test .taken) (held (l .mask) (l .value)) (l .inv .3)
+    let t = turn c in
+    let l = t .before .loop in
+    let s = start t in
+    turn-ready (s .args .width .now) (s .args .words .now) (rows s) (s .pre) (l .i) (t .loop-test .taken) (c .record-at .result) (c .record-at .ensures) (held (l .mask) (l .value)) (l .inv .3)
 
 loop-again : tie.Need-loop-again Inv-loop μ-loop
 loop-again c =
-    let a = c .before .before .before .before .before .before .before .before .before .before .before .before .before .before .before .before .before .before .args in
-    let l = c .before .before .before .before .before .before .before .before .before .before .before .before .before .loop in
-    let R = c .before .before .before .before .before .before .before .before .before .before .before .before .before .before .before .before .before .before .pre in
-    let n = turn-next (a .width .now) (a .words .now) (held (a .mask .now) (a .value .now)) R (l .i) (c .before .before .before .before .before .before .before .before .before .before .before .before .loop-test .taken) (held (l .mask) (l .value)) _ (l .inv .3) (c .before .before .before .before .step .ensures) in
-    let f = at-fits (a .width .now) (a .words .now) (held (a .mask .now) (a .value .now)) R (l .i + 1) _ n in
-    (f .masks-length ∙ sym (R .fits .masks-length), f .values-length ∙ sym (R .fits .values-length), omega arith, n)
+    let p = c .before .before .before .before in
+    let r = p .before in
+    let t = turn r in
+    let l = t .before .loop in
+    let s = start t in
+    let n = turn-next (s .args .width .now) (s .args .words .now) (rows s) (s .pre) (l .i) (t .loop-test .taken) (r .record-at .result) (r .record-at .ensures) (held (l .mask) (l .value)) (l .inv .3) _ (p .step .ensures) in
+    let f = at-fits (s .args .width .now) (s .args .words .now) (rows s) (s .pre) (l .i + 1) _ n in
+    (f .masks-length ∙ sym (s .pre .fits .masks-length), f .values-length ∙ sym (s .pre .fits .values-length), omega arith, n)
 
 returns : tie.Need-returns Inv-loop μ-loop
 returns c =
-    let h : c .before .loop .i ≡ length (c .before .before .before .before .before .before .args .words .now) / 5 = omega arith in
-    c .before .loop .inv .3 ∙ ap (λ (n : ℕ). after (programOf (lent (c .before .before .before .before .before .before .args .width .now) [] [] [] (c .before .before .before .before .before .before .args .words .now))) 0 n (held (c .before .before .before .before .before .before .args .mask .now) (c .before .before .before .before .before .before .args .value .now))) h
+    let l = c .before .loop in
+    let s = c .before .before .before .before .before .before in
+    let e : l .i ≡ length (s .args .words .now) / recordWords = omega arith in
+    l .inv .3 ∙ ap (λ (n : ℕ). after (programOf (lent (s .args .width .now) [] [] [] (s .args .words .now))) 0 n (rows s)) e
 
 pub step-all-spec : {M : Type 1} → statement M
 step-all-spec =
@@ -51,21 +72,7 @@ step-all-spec =
     Inv-loop
     μ-loop
     loop-holds
-    (λ c. omega arith)
-    (λ c. omega arith)
-    (λ c. omega arith)
-    (λ c. omega arith)
-    (λ c. omega arith)
-    (λ c. omega arith)
-    (λ c. omega arith)
-    (λ c. omega arith)
-    (λ c. omega arith)
-    (λ c. omega arith)
-    (λ c. omega arith)
-    (λ c. omega arith)
-    (λ c. omega arith)
-    (λ c. omega arith)
-    (λ c. omega arith)
+    (λ c κs. search needs)
     step-requires
     (λ c. omega arith)
     (λ c. omega arith)
