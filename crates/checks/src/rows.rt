@@ -4,7 +4,7 @@ ghost use mathlib.Core.List.{[]};
 ghost use Prim.Native.Nat.{_≤_};
 ghost use Rattle.checks.specs.Check.{placed};
 ghost use Rattle.checks.specs.Checks.{widthFaults, vectorFaults, rowFaults, rowChecks};
-ghost use Rattle.checks.specs.Limits.{widthLimit};
+ghost use Rattle.bits.specs.Limits.{widthLimit};
 ghost use Rattle.checks.specs.Model.{lent, verdictModel, judged};
 ghost use Rattle.checks.specs.Encoding.{RowSlices};
 use crate::Verdict;
