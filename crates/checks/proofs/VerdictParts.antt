@@ -15,10 +15,10 @@ use Rattle.checks.specs.declared.Verdict.the-variants.{Passed as Clear, 
 use Rattle.checks.specs.Check.{Answer, done, refused, Check, verdict, placed, rising, Passed}
 use Rattle.checks.specs.Limits.{rowLimit}
 use Rattle.checks.specs.Table.{Table}
-use Rattle.checks.specs.Checks.{rowShapeFaults}
-use Rattle.checks.specs.Encoding.{RowSlices}
+use Rattle.checks.specs.Checks.{rowShapeFaults, wordFaults}
+use Rattle.checks.specs.Encoding.{RowSlices, headChecks}
 use Rattle.checks.specs.Model.{verdictModel, judged}
-use Rattle.checks.proofs.Verdicts.{passed-of-done, verdict-passed, verdict-refused}
+use Rattle.checks.proofs.Verdicts.{passed-left, passed-of-done, verdict-passed, verdict-refused}
 
 module _ (r : Verdict) (cs ds : List Check) (e : verdictModel r ≡ judged cs) where
   -- a part that is clear leaves the verdict to the rest
@@ -68,3 +68,6 @@ slices-of-shape t P = (
     values-length = eqb→eq _ _ (T-not-not (eqb (length (t .values)) (length (t .widths))) (P .1 .1 .1 .1 .0));
   },
 )
+
+pub slices-of-head : (t : Table) → judged (headChecks t) ≡ done tt → (length (t .widths) ≤ rowLimit) × RowSlices (t .widths) (t .locks) (t .masks) (t .values)
+slices-of-head t e = slices-of-shape t (passed-left (placed 0 (rowShapeFaults t)) (placed 0 (wordFaults t)) (passed-of-done (headChecks t) tt tt e))

@@ -1,5 +1,6 @@
 -- `checks::check_body` meets its contract: the rows, then the records. Assumes nothing.
 use mathlib.Core.Path.{sym, ap, _∙_}
+use Rattle.checks.specs.Table.{Table}
 use Rattle.checks.specs.Checks.{rowChecks}
 use Rattle.checks.specs.Model.{lent, verdictModel}
 use Rattle.checks.specs.Encoding.{recordsWith}
@@ -8,29 +9,23 @@ use borrow.Author.Needs.{needs}
 use Rattle.checks.proofs.check_body.Statement.{statement}
 use Rattle.checks.proofs.check_body.Tie as tie
 
-check-rows-requires : tie.Need-check-rows-requires
-check-rows-requires c κs = search needs
+abbrev table : tie.Start → Table
+table s = lent (s .args .width .now) (s .args .lock .now) (s .args .mask .now) (s .args .value .now) (s .args .words .now)
 
-enum-told : tie.Need-enum-told
-enum-told c = search needs
+abbrev start : tie.After-check-rows → tie.Start
+start c = c .before .before .before .before .before .before
 
 returns : tie.Need-returns
 returns c =
-    let a = c .before .before .before .before .before .before .before .before .args in
-    ap verdictModel (c .enum-told .given .1) ∙ sym (stops (c .before .before .check-rows .result) (rowChecks (lent (a .width .now) (a .lock .now) (a .mask .now) (a .value .now) (a .words .now))) (recordsWith (a .locked) (lent (a .width .now) (a .lock .now) (a .mask .now) (a .value .now) (a .words .now))) (c .before .before .check-rows .ensures) _ (c .enum-told .given .1))
-
-enum-told-2 : tie.Need-enum-told-2
-enum-told-2 c = search needs
-
-check-records-requires : tie.Need-check-records-requires
-check-records-requires c κs = search needs
+    let f = c .before .before in
+    let s = start f in
+    ap verdictModel (c .enum-told .given .1) ∙ sym (stops (f .check-rows .result) (rowChecks (table s)) (recordsWith (s .args .locked) (table s)) (f .check-rows .ensures) _ (c .enum-told .given .1))
 
 returns-2 : tie.Need-returns-2
 returns-2 c =
-    let a = c .before .before .before .before .before .before .before .before .before .args in
-    c .check-records .ensures ∙ sym (goes-on (c .before .before .before .check-rows .result) (rowChecks (lent (a .width .now) (a .lock .now) (a .mask .now) (a .value .now) (a .words .now))) (recordsWith (a .locked) (lent (a .width .now) (a .lock .now) (a .mask .now) (a .value .now) (a .words .now))) (c .before .before .before .check-rows .ensures) (c .before .enum-told2 .given .1))
+    let f = c .before .before .before in
+    let s = start f in
+    c .check-records .ensures ∙ sym (goes-on (f .check-rows .result) (rowChecks (table s)) (recordsWith (s .args .locked) (table s)) (f .check-rows .ensures) (c .before .enum-told2 .given .1))
 
 pub check-body-spec : {M : Type 1} → statement M
-check-body-spec =
-    tie.close
-    (tie.spec check-rows-requires enum-told returns enum-told-2 check-records-requires returns-2)
+check-body-spec = tie.close (tie.spec (λ c κs. search needs) (λ c. search needs) returns (λ c. search needs) (λ c κs. search needs) returns-2)

@@ -1,6 +1,8 @@
 -- `checks::check_head` meets its contract: checks 1 and 2, then 3. Assumes nothing.
 use mathlib.Core.Path.{sym, ap, _∙_}
-use Rattle.checks.specs.Check.{placed}
+use mathlib.Core.List.{List}
+use Rattle.checks.specs.Check.{Check, placed}
+use Rattle.checks.specs.Table.{Table}
 use Rattle.checks.specs.Checks.{rowShapeFaults, wordFaults}
 use Rattle.checks.specs.Model.{lent, verdictModel}
 use Rattle.checks.proofs.VerdictParts.{goes-on, stops}
@@ -8,29 +10,27 @@ use borrow.Author.Needs.{needs}
 use Rattle.checks.proofs.check_head.Statement.{statement}
 use Rattle.checks.proofs.check_head.Tie as tie
 
-check-shape-requires : tie.Need-check-shape-requires
-check-shape-requires c κs = search needs
+abbrev table : tie.Start → Table
+table s = lent (s .args .width .now) (s .args .lock .now) (s .args .mask .now) (s .args .value .now) (s .args .words .now)
 
-enum-told : tie.Need-enum-told
-enum-told c = search needs
+abbrev shape : tie.Start → List Check
+shape s = placed 0 (rowShapeFaults (table s))
+
+abbrev words : tie.Start → List Check
+words s = placed 0 (wordFaults (table s))
+
+abbrev start : tie.After-check-shape → tie.Start
+start c = c .before .before .before .before .before .before
 
 returns : tie.Need-returns
 returns c =
-    let a = c .before .before .before .before .before .before .before .before .args in
-    ap verdictModel (c .enum-told .given .1) ∙ sym (stops (c .before .before .check-shape .result) (placed 0 (rowShapeFaults (lent (a .width .now) (a .lock .now) (a .mask .now) (a .value .now) (a .words .now)))) (placed 0 (wordFaults (lent (a .width .now) (a .lock .now) (a .mask .now) (a .value .now) (a .words .now)))) (c .before .before .check-shape .ensures) _ (c .enum-told .given .1))
-
-enum-told-2 : tie.Need-enum-told-2
-enum-told-2 c = search needs
-
-check-words-requires : tie.Need-check-words-requires
-check-words-requires c κs = search needs
+    let f = c .before .before in
+    ap verdictModel (c .enum-told .given .1) ∙ sym (stops (f .check-shape .result) (shape (start f)) (words (start f)) (f .check-shape .ensures) _ (c .enum-told .given .1))
 
 returns-2 : tie.Need-returns-2
 returns-2 c =
-    let a = c .before .before .before .before .before .before .before .before .before .args in
-    c .check-words .ensures ∙ sym (goes-on (c .before .before .before .check-shape .result) (placed 0 (rowShapeFaults (lent (a .width .now) (a .lock .now) (a .mask .now) (a .value .now) (a .words .now)))) (placed 0 (wordFaults (lent (a .width .now) (a .lock .now) (a .mask .now) (a .value .now) (a .words .now)))) (c .before .before .before .check-shape .ensures) (c .before .enum-told2 .given .1))
+    let f = c .before .before .before in
+    c .check-words .ensures ∙ sym (goes-on (f .check-shape .result) (shape (start f)) (words (start f)) (f .check-shape .ensures) (c .before .enum-told2 .given .1))
 
 pub check-head-spec : {M : Type 1} → statement M
-check-head-spec =
-    tie.close
-    (tie.spec check-shape-requires enum-told returns enum-told-2 check-words-requires returns-2)
+check-head-spec = tie.close (tie.spec (λ c κs. search needs) (λ c. search needs) returns (λ c. search needs) (λ c κs. search needs) returns-2)

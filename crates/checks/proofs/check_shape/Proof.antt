@@ -1,33 +1,54 @@
 -- `checks::check_shape` meets its contract: checks 1 and 2, test by test. Assumes nothing.
-use Rattle.checks.specs.Check.{verdict}
+use mathlib.Core.Path.{_≡_, sym, ap, _∙_}
+use mathlib.Core.Bool.{not}
+use mathlib.Core.List.{[]}
+use Prim.Native.Nat.{ℕ}
+use lib.ListN.{drop}
+use Rattle.checks.specs.Check.{Answer, placed}
+use Rattle.checks.specs.Checks.{rowShapeFaults}
+use Rattle.checks.specs.Model.{lent, judged}
+use Rattle.checks.proofs.Verdicts.{hits, skips, clears}
 use borrow.Author.Tests.{eq-eqb, ne-eqb, lt-ltb, le-ltb}
 use borrow.Author.Needs.{needs}
 use Rattle.checks.proofs.check_shape.Statement.{statement}
 use Rattle.checks.proofs.check_shape.Tie as tie
 
+-- the verdict on the conditions after the first k
+abbrev after : tie.Start → ℕ → Answer (Unit {0})
+after s k = judged (placed 0 (drop k (rowShapeFaults (lent (s .args .width .now) (s .args .lock .now) (s .args .mask .now) (s .args .value .now) []))))
+
+abbrev start : tie.Else1 → tie.Start
+start c = c .before .before .before .before .before
+
+past-none : (c : tie.Else1) → after (start c) 0 ≡ after (start c) 1
+past-none c = skips _ _ (ne-eqb _ _ (c .if1 .left))
+
+past-many : (c : tie.Else2) → after (start (c .before)) 0 ≡ after (start (c .before)) 2
+past-many c = past-none (c .before) ∙ skips _ _ (le-ltb _ _ (c .if2 .left))
+
+past-locks : (c : tie.Else3) → after (start (c .before .before)) 0 ≡ after (start (c .before .before)) 3
+past-locks c = past-many (c .before) ∙ skips _ _ (ap not (eq-eqb _ _ (c .if3 .left)))
+
+past-masks : (c : tie.Else4) → after (start (c .before .before .before)) 0 ≡ after (start (c .before .before .before)) 4
+past-masks c = past-locks (c .before) ∙ skips _ _ (ap not (eq-eqb _ _ (c .if4 .left)))
+
 returns : tie.Need-returns
-unfolding verdict
-returns c = simp (eq-eqb _ _ (c .before .if1 .taken)) (c .refuse .ensures)
+returns c = c .refuse .ensures ∙ sym (hits _ _ (eq-eqb _ _ (c .before .if1 .taken)))
 
 returns-2 : tie.Need-returns-2
-unfolding verdict
-returns-2 c = simp (ne-eqb _ _ (c .before .before .if1 .left), lt-ltb _ _ (c .before .if2 .taken)) (c .refuse2 .ensures)
+returns-2 c = let t = c .before in c .refuse2 .ensures ∙ sym (past-none (t .before) ∙ hits _ _ (lt-ltb _ _ (t .if2 .taken)))
 
 returns-3 : tie.Need-returns-3
-unfolding verdict
-returns-3 c = simp (ne-eqb _ _ (c .before .before .before .if1 .left), le-ltb _ _ (c .before .before .if2 .left), ne-eqb _ _ (c .before .if3 .taken)) (c .refuse3 .ensures)
+returns-3 c = let t = c .before in c .refuse3 .ensures ∙ sym (past-many (t .before) ∙ hits _ _ (ap not (ne-eqb _ _ (t .if3 .taken))))
 
 returns-4 : tie.Need-returns-4
-unfolding verdict
-returns-4 c = simp (ne-eqb _ _ (c .before .before .before .before .if1 .left), le-ltb _ _ (c .before .before .before .if2 .left), eq-eqb _ _ (c .before .before .if3 .left), ne-eqb _ _ (c .before .if4 .taken)) (c .refuse4 .ensures)
+returns-4 c = let t = c .before in c .refuse4 .ensures ∙ sym (past-locks (t .before) ∙ hits _ _ (ap not (ne-eqb _ _ (t .if4 .taken))))
 
 returns-5 : tie.Need-returns-5
-unfolding verdict
-returns-5 c = simp (ne-eqb _ _ (c .before .before .before .before .before .if1 .left), le-ltb _ _ (c .before .before .before .before .if2 .left), eq-eqb _ _ (c .before .before .before .if3 .left), eq-eqb _ _ (c .before .before .if4 .left), ne-eqb _ _ (c .before .if5 .taken)) (c .refuse5 .ensures)
+returns-5 c = let t = c .before in c .refuse5 .ensures ∙ sym (past-masks (t .before) ∙ hits _ _ (ap not (ne-eqb _ _ (t .if5 .taken))))
 
 returns-6 : tie.Need-returns-6
-unfolding verdict
-returns-6 c = simp (ne-eqb _ _ (c .before .before .before .before .if1 .left), le-ltb _ _ (c .before .before .before .if2 .left), eq-eqb _ _ (c .before .before .if3 .left), eq-eqb _ _ (c .before .if4 .left), eq-eqb _ _ (c .if5 .left))
+returns-6 c = sym (past-masks (c .before) ∙ clears _ (ap not (eq-eqb _ _ (c .if5 .left))))
 
 pub check-shape-spec : {M : Type 1} → statement M
 check-shape-spec =

@@ -1,28 +1,20 @@
 -- `checks::check_words` meets its contract: check 3 without a stretch, test by test. Assumes nothing.
-use Rattle.checks.specs.Check.{verdict}
+use mathlib.Core.Path.{sym, ap, _∙_}
+use mathlib.Core.Bool.{not}
+use Rattle.checks.proofs.Verdicts.{hits, skips, clears}
 use borrow.Author.Tests.{eq-eqb, ne-eqb, lt-ltb, le-ltb}
 use borrow.Author.Needs.{needs}
 use Rattle.checks.proofs.check_words.Statement.{statement}
 use Rattle.checks.proofs.check_words.Tie as tie
 
-refuse-requires : tie.Need-refuse-requires
-refuse-requires c κs = search needs
-
 returns : tie.Need-returns
-unfolding verdict
-returns c = simp (ne-eqb _ _ (c .before .if1 .taken)) (c .refuse .ensures)
-
-refuse-requires-2 : tie.Need-refuse-requires-2
-refuse-requires-2 c κs = search needs
+returns c = c .refuse .ensures ∙ sym (hits _ _ (ap not (ne-eqb _ _ (c .before .if1 .taken))))
 
 returns-2 : tie.Need-returns-2
-unfolding verdict
-returns-2 c = simp (eq-eqb _ _ (c .before .before .if1 .left), lt-ltb _ _ (c .before .if2 .taken)) (c .refuse2 .ensures)
+returns-2 c = c .refuse2 .ensures ∙ sym (skips _ _ (ap not (eq-eqb _ _ (c .before .before .if1 .left))) ∙ hits _ _ (lt-ltb _ _ (c .before .if2 .taken)))
 
 returns-3 : tie.Need-returns-3
-unfolding verdict
-returns-3 c = simp (eq-eqb _ _ (c .before .if1 .left), le-ltb _ _ (c .if2 .left))
+returns-3 c = sym (skips _ _ (ap not (eq-eqb _ _ (c .before .if1 .left))) ∙ clears _ (le-ltb _ _ (c .if2 .left)))
 
 pub check-words-spec : {M : Type 1} → statement M
-check-words-spec =
-    tie.close (tie.spec refuse-requires returns refuse-requires-2 returns-2 returns-3)
+check-words-spec = tie.close (tie.spec (λ c κs. search needs) returns (λ c κs. search needs) returns-2 returns-3)
