@@ -1,16 +1,17 @@
 -- The read call: each answer, and what it leaves. Assumes nothing.
 --   refuse-locks .. refuse-words   the refusals, in the order of the checks
+--   survey-waits, body-inside      what the first pass needs
 --   rows-wait, records-wait        what the second pass needs
 --   accept                         the slices filled, and both counts
-use mathlib.Core.Path.{_≡_, refl, sym, ap, _∙_}
+use mathlib.Core.Path.{_≡_, refl, sym, ap, ap₂, _∙_}
 use mathlib.Core.Bool.{Bool, false, not, cond}
 use mathlib.Core.List.{List, _++_, map}
-use Prim.Native.Nat.{ℕ, _+_, _*_, _/_, _≤_, _<_}
+use Prim.Native.Nat.{ℕ, zero, suc, _+_, _-_, _*_, _/_, _≤_, _<_}
 use native.Mathlib.Nat.{zero-add}
 use native.Mathlib.Omega.{arith}
 use lib.Dec.{eqb}
-use lib.ListN.{length, drop, length-map}
-use lib.Seq.{sets, sets-eq}
+use lib.ListN.{length, take, drop, length-map, length-drop}
+use lib.Seq.{sets, sets-eq, take-all}
 use borrow.Author.Tests.{eq-eqb, ne-eqb, lt-ltb, le-ltb}
 use Rattle.operations.specs.Limits.{recordWords}
 use Rattle.checks.specs.Check.{Answer, done, refused, verdict}
@@ -18,8 +19,13 @@ use Rattle.checks.specs.Table.{Table}
 use Rattle.checks.specs.Checks.{locksDiffer, masksDiffer, valuesDiffer}
 use Rattle.grammar.specs.Limits.{textLimit}
 use Rattle.grammar.specs.Lists.{filled}
-use Rattle.grammar.specs.Print.{LineRow}
-use Rattle.grammar.specs.Lines.{linesIn, rowsIn, wordsIn, tableIn, tableRead}
+use Rattle.grammar.specs.Words.{Edition}
+use Rattle.grammar.specs.Print.{LineRow, Line}
+use Rattle.grammar.specs.Lines.{linesFrom, Opening as Opened, opening, linesIn, firstBad, rowsIn, wordsIn, tableIn, tableRead}
+use Rattle.grammar.proofs.Openings.{opening-first, opening-inside, lines-after}
+use Rattle.grammar.proofs.Sorted.{bad-any}
+use Rattle.lines.specs.declared.edition.Opening.{Opening}
+use Rattle.lines.specs.Model.{editionModel, openingModel}
 use Rattle.texts.specs.Calls.{textOver, badLine, rowsExceed, wordsExceed, readChecks, Counts, countsOf, ReadBack, readAs, readOf}
 use Rattle.texts.proofs.ReadChecks.{ReadPassed, answer-of-read}
 use Rattle.texts.specs.Fill.{Surveyed, RowsWait, RowsRead, RecordsWait, RecordsRead}
@@ -28,6 +34,39 @@ use Rattle.texts.specs.Fill.{Surveyed, RowsWait, RowsRead, RecordsWait, 
 abbrev chosen : Bool → Bool → Bool → Bool → Bool → Bool → Bool → ℕ → Counts → Answer Counts
 chosen a b c d e f g n k =
     cond a (refused 2 0) (cond b (refused 2 0) (cond c (refused 2 0) (cond d (refused 11 0) (cond e (refused 12 n) (cond f (refused 13 0) (cond g (refused 13 0) (done k)))))))
+
+-- ---- what follows the opening
+
+abbrev edition : Opening → Edition
+edition o = editionModel (o .edition)
+
+abbrev body : List ℕ → Opening → List ℕ
+body text o = take (length text - o .at) (drop (o .at) text)
+
+body-is : (text : List ℕ) (o : Opening) → body text o ≡ drop (o .at) text
+body-is text o = take-all (length text - o .at) (drop (o .at) text) (omega (arith, length-drop (o .at) text))
+
+lines-are : (text : List ℕ) (o : Opening) → openingModel o ≡ opening text → linesIn text ≡ linesFrom (edition o) (body text o)
+lines-are text o e = lines-after text ∙ ap (λ (p : Opened). linesFrom (p .edition) (drop (p .at) text)) (sym e) ∙ ap (linesFrom (edition o)) (sym (body-is text o))
+
+good-from-one : (first : ℕ) (ls : List Line) → 1 ≤ first → firstBad false first ls ≡ 0 → firstBad false 1 ls ≡ 0
+good-from-one zero ls h e = absurd (omega arith)
+good-from-one (suc m) ls h e = bad-any false m 1 ls e
+
+-- what the first pass needs
+pub survey-waits : (text : List ℕ) (o : Opening) → openingModel o ≡ opening text → length text ≤ textLimit
+    → (1 ≤ o .first) × (o .first ≤ textLimit) × (length (body text o) ≤ textLimit)
+survey-waits text o e short =
+    let is : o .first ≡ opening text .first = ap (λ (p : Opened). p .first) e in (
+      omega (arith, opening-first text .0),
+      omega (arith, opening-first text .1),
+      omega (arith, ap length (body-is text o), length-drop (o .at) text),
+    )
+
+pub body-inside : (text : List ℕ) (o : Opening) → openingModel o ≡ opening text → o .at ≤ length text
+body-inside text o e = let is : o .at ≡ opening text .at = ap (λ (p : Opened). p .at) e in omega (arith, opening-inside text)
+
+-- ---- the answers
 
 module _ (text : List ℕ) (lent : Table) where
   by-conditions : readOf text lent
@@ -74,85 +113,100 @@ module _ (text : List ℕ) (lent : Table) where
           short-is : textOver text ≡ false
           short-is = le-ltb textLimit (length text) short
 
-          pub refuse-line : (n rows records : ℕ) → Surveyed text n rows records → (n ≡ 0 → ⊥) → Leaves 12 n
-          refuse-line n rows records s h =
-              ap (λ (k : ℕ). record { answer = refused 12 k; slices = lent }) (s .bad-is)
-              ∙ sym (by-conditions ∙ (λ i. gives (not (eq-eqb _ _ el i)) (not (eq-eqb _ _ em i)) (not (eq-eqb _ _ ev i)) (short-is i) (not (ne-eqb (badLine text) 0 (λ e. h (s .bad-is ∙ e)) i)) rows-over words-over))
+          module _ (o : Opening) (opened : openingModel o ≡ opening text) (rows records n : ℕ) (s : Surveyed (edition o) (o .first) (body text o) n rows records) where
+            bad-is : n ≡ badLine text
+            bad-is = s .bad-is ∙ ap₂ (firstBad false) (ap (λ (p : Opened). p .first) opened) (sym (lines-are text o opened))
 
-          module _ (rows records : ℕ) (n : ℕ) (zero-bad : n ≡ 0) (s : Surveyed text n rows records) where
-            good : badLine text ≡ 0
-            good = sym (s .bad-is) ∙ zero-bad
+            pub refuse-line : (n ≡ 0 → ⊥) → Leaves 12 n
+            refuse-line h =
+                ap (λ (k : ℕ). record { answer = refused 12 k; slices = lent }) bad-is
+                ∙ sym (by-conditions ∙ (λ i. gives (not (eq-eqb _ _ el i)) (not (eq-eqb _ _ em i)) (not (eq-eqb _ _ ev i)) (short-is i) (not (ne-eqb (badLine text) 0 (λ e. h (bad-is ∙ e)) i)) rows-over words-over))
 
-            rows-are : length (tableRead text .widths) ≡ rows
-            unfolding tableIn
-            rows-are = length-map (rowsIn (linesIn text)) (λ r. r .vector .width) ∙ sym (s .rows-is zero-bad)
+            module _ (zero-bad : n ≡ 0) where
+              good : badLine text ≡ 0
+              good = sym bad-is ∙ zero-bad
 
-            words-are : length (tableRead text .words) ≡ recordWords * records
-            unfolding tableIn
-            words-are = sym (s .words-is zero-bad)
+              rows-in : length (rowsIn (linesIn text)) ≡ rows
+              rows-in = ap (λ (ls : List Line). length (rowsIn ls)) (lines-are text o opened) ∙ sym (s .rows-is zero-bad)
 
-            abbrev passed : Bool → Bool → ReadBack
-            passed f g = gives false false false false false f g
+              rows-are : length (tableRead text .widths) ≡ rows
+              unfolding tableIn
+              rows-are = length-map (rowsIn (linesIn text)) (λ r. r .vector .width) ∙ rows-in
 
-            so-far : readOf text lent ≡ passed rows-over words-over
-            so-far = by-conditions ∙ (λ i. gives (not (eq-eqb _ _ el i)) (not (eq-eqb _ _ em i)) (not (eq-eqb _ _ ev i)) (short-is i) (not (eq-eqb (badLine text) 0 good i)) rows-over words-over)
+              good-lines : firstBad false 1 (linesFrom (edition o) (body text o)) ≡ 0
+              good-lines =
+                  let is : o .first ≡ opening text .first = ap (λ (p : Opened). p .first) opened in
+                  good-from-one (o .first) (linesFrom (edition o) (body text o)) (omega (arith, opening-first text .0)) (sym (s .bad-is) ∙ zero-bad)
 
-            pub refuse-rows : length (lent .widths) < rows → Leaves 13 0
-            refuse-rows h = sym (so-far ∙ (λ i. passed (lt-ltb (length (lent .widths)) (length (tableRead text .widths)) (omega (arith, h, rows-are)) i) words-over))
+              words-are : length (tableRead text .words) ≡ recordWords * records
+              unfolding tableIn
+              words-are = ap (λ (ls : List Line). length (wordsIn ls)) (lines-are text o opened) ∙ sym (s .words-is zero-bad)
 
-            module _ (hold : rows ≤ length (lent .widths)) where
-              pub refuse-words : length (lent .words) < recordWords * records → Leaves 13 0
-              refuse-words h =
-                  sym (so-far
-                  ∙ (λ i. passed (le-ltb (length (lent .widths)) (length (tableRead text .widths)) (omega (arith, hold, rows-are)) i)
-                  (lt-ltb (length (lent .words)) (length (tableRead text .words)) (omega (arith, h, words-are)) i)))
+              abbrev passed : Bool → Bool → ReadBack
+              passed f g = gives false false false false false f g
 
-              pub rows-wait : RowsWait text rows (lent .widths) (lent .locks) (lent .masks) (lent .values)
-              rows-wait =
-                  record {
-                    good = good;
-                    count = s .rows-is zero-bad;
-                    widths-hold = hold;
-                    locks-hold = omega (arith, hold, el);
-                    masks-hold = omega (arith, hold, em);
-                    values-hold = omega (arith, hold, ev);
-                  }
+              so-far : readOf text lent ≡ passed rows-over words-over
+              so-far = by-conditions ∙ (λ i. gives (not (eq-eqb _ _ el i)) (not (eq-eqb _ _ em i)) (not (eq-eqb _ _ ev i)) (short-is i) (not (eq-eqb (badLine text) 0 good i)) rows-over words-over)
 
-              module _ (words-hold : recordWords * records ≤ length (lent .words)) {at : ℕ} {ws ls ms vs : List ℕ}
-                  (a : RowsRead text at (lent .widths) ws (lent .locks) ls (lent .masks) ms (lent .values) vs) where
-                pub records-wait : RecordsWait text at records (lent .words)
-                records-wait = record { inside = a .inside; good = a .good-left; count = s .words-is zero-bad ∙ sym (ap length (a .words-left)); words-hold = words-hold }
+              pub refuse-rows : length (lent .widths) < rows → Leaves 13 0
+              refuse-rows h = sym (so-far ∙ (λ i. passed (lt-ltb (length (lent .widths)) (length (tableRead text .widths)) (omega (arith, h, rows-are)) i) words-over))
 
-                put : (old x : List ℕ) → length x ≤ length old → sets old 0 x ≡ filled x old
-                put old x h = sets-eq x old 0 (omega arith) ∙ ap (λ (k : ℕ). x ++ drop k old) (zero-add (length x))
+              module _ (hold : rows ≤ length (lent .widths)) where
+                pub refuse-words : length (lent .words) < recordWords * records → Leaves 13 0
+                refuse-words h =
+                    sym (so-far
+                    ∙ (λ i. passed (le-ltb (length (lent .widths)) (length (tableRead text .widths)) (omega (arith, hold, rows-are)) i)
+                    (lt-ltb (length (lent .words)) (length (tableRead text .words)) (omega (arith, h, words-are)) i)))
 
-                column : (f : LineRow → ℕ) (old : List ℕ) → rows ≤ length old → sets old 0 (map f (rowsIn (linesIn text))) ≡ filled (map f (rowsIn (linesIn text))) old
-                column f old h = put old (map f (rowsIn (linesIn text))) (omega (arith, h, length-map (rowsIn (linesIn text)) f, s .rows-is zero-bad))
-
-                passes : ReadPassed text lent
-                passes =
+                pub rows-wait : RowsWait (edition o) (body text o) rows (lent .widths) (lent .locks) (lent .masks) (lent .values)
+                rows-wait =
                     record {
-                      locks-same = el;
-                      masks-same = em;
-                      values-same = ev;
-                      short = short;
-                      good = good;
-                      rows-hold = omega (arith, hold, rows-are);
-                      words-hold = omega (arith, words-hold, words-are);
+                      good = good-lines;
+                      count = s .rows-is zero-bad;
+                      widths-hold = hold;
+                      locks-hold = omega (arith, hold, el);
+                      masks-hold = omega (arith, hold, em);
+                      values-hold = omega (arith, hold, ev);
                     }
 
-                pub accept : {words : List ℕ} → RecordsRead text at (lent .words) words
-                    → record { answer = done (record { rows = rows; records = records }); slices = record { widths = ws; locks = ls; masks = ms; values = vs; words = words } } ≡ readOf text lent
-                unfolding tableIn
-                accept {words} o =
-                    let records-are : records ≡ length (tableRead text .words) / recordWords = omega (arith, words-are) in
-                    let widths-is = a .widths-are ∙ column (λ r. r .vector .width) (lent .widths) hold in
-                    let locks-is = a .locks-are ∙ column (λ r. r .lock) (lent .locks) (omega (arith, hold, el)) in
-                    let masks-is = a .masks-are ∙ column (λ r. r .vector .mask) (lent .masks) (omega (arith, hold, em)) in
-                    let values-is = a .values-are ∙ column (λ r. r .vector .value) (lent .values) (omega (arith, hold, ev)) in
-                    let words-is = o .words-are ∙ ap (sets (lent .words) 0) (a .words-left) ∙ put (lent .words) (wordsIn (linesIn text)) (omega (arith, words-hold, s .words-is zero-bad)) in
-                    (λ i. record {
-                      answer = done (record { rows = sym rows-are i; records = records-are i });
-                      slices = record { widths = widths-is i; locks = locks-is i; masks = masks-is i; values = values-is i; words = words-is i };
-                    })
-                    ∙ sym (answer-of-read text lent passes)
+                module _ (words-hold : recordWords * records ≤ length (lent .words)) {at : ℕ} {ws ls ms vs : List ℕ}
+                    (a : RowsRead (edition o) (body text o) at (lent .widths) ws (lent .locks) ls (lent .masks) ms (lent .values) vs) where
+                  pub records-wait : RecordsWait (edition o) (body text o) at records (lent .words)
+                  records-wait = record { inside = a .inside; good = a .good-left; count = s .words-is zero-bad ∙ sym (ap length (a .words-left)); words-hold = words-hold }
+
+                  put : (old x : List ℕ) → length x ≤ length old → sets old 0 x ≡ filled x old
+                  put old x h = sets-eq x old 0 (omega arith) ∙ ap (λ (k : ℕ). x ++ drop k old) (zero-add (length x))
+
+                  column : (f : LineRow → ℕ) (old : List ℕ) → rows ≤ length old → sets old 0 (map f (rowsIn (linesIn text))) ≡ filled (map f (rowsIn (linesIn text))) old
+                  column f old h = put old (map f (rowsIn (linesIn text))) (omega (arith, h, length-map (rowsIn (linesIn text)) f, rows-in))
+
+                  in-text : (f : LineRow → ℕ) (old : List ℕ) → rows ≤ length old → sets old 0 (map f (rowsIn (linesFrom (edition o) (body text o)))) ≡ filled (map f (rowsIn (linesIn text))) old
+                  in-text f old h = ap (λ (ls : List Line). sets old 0 (map f (rowsIn ls))) (sym (lines-are text o opened)) ∙ column f old h
+
+                  passes : ReadPassed text lent
+                  passes =
+                      record {
+                        locks-same = el;
+                        masks-same = em;
+                        values-same = ev;
+                        short = short;
+                        good = good;
+                        rows-hold = omega (arith, hold, rows-are);
+                        words-hold = omega (arith, words-hold, words-are);
+                      }
+
+                  pub accept : {words : List ℕ} → RecordsRead (edition o) (body text o) at (lent .words) words
+                      → record { answer = done (record { rows = rows; records = records }); slices = record { widths = ws; locks = ls; masks = ms; values = vs; words = words } } ≡ readOf text lent
+                  unfolding tableIn
+                  accept {words} w =
+                      let records-are : records ≡ length (tableRead text .words) / recordWords = omega (arith, words-are) in
+                      let widths-is = a .widths-are ∙ in-text (λ r. r .vector .width) (lent .widths) hold in
+                      let locks-is = a .locks-are ∙ in-text (λ r. r .lock) (lent .locks) (omega (arith, hold, el)) in
+                      let masks-is = a .masks-are ∙ in-text (λ r. r .vector .mask) (lent .masks) (omega (arith, hold, em)) in
+                      let values-is = a .values-are ∙ in-text (λ r. r .vector .value) (lent .values) (omega (arith, hold, ev)) in
+                      let words-is = w .words-are ∙ ap (sets (lent .words) 0) (a .words-left ∙ ap wordsIn (sym (lines-are text o opened))) ∙ put (lent .words) (wordsIn (linesIn text)) (omega (arith, words-hold, words-are)) in
+                      (λ i. record {
+                        answer = done (record { rows = sym rows-are i; records = records-are i });
+                        slices = record { widths = widths-is i; locks = locks-is i; masks = masks-is i; values = values-is i; words = words-is i };
+                      })
+                      ∙ sym (answer-of-read text lent passes)
