@@ -1,8 +1,8 @@
 -- What a reading function's answer says. Assumes nothing.
 --   tells, tells-not   the two answers;   told, untold   what a caller learns of them
-use mathlib.Core.Path.{_≡_, sym, ap, subst}
+use mathlib.Core.Path.{_≡_, ap, subst}
 use mathlib.Core.Bool.{Bool, true, false}
-use mathlib.Core.Option.{Option, some, none}
+use mathlib.Core.Option.{some, none}
 use lib.Dec.{T}
 use Rattle.lines.specs.Reads.{reading}
 

@@ -6,6 +6,7 @@ ghost use Rattle.lines.specs.Model.{editionModel, numberModel, vectorMod
 use crate::edition::Edition;
 use crate::limits::NUMBER_LIMIT;
 use crate::limits::WIDTH_LIMIT;
+use bits::wide;
 
 // What a field tells where it stands for a number, a lock or a kind.
 pub enum NumberField {
@@ -17,12 +18,6 @@ pub enum NumberField {
 pub enum VectorField {
     Vector { width: u32, mask: u32, value: u32 },
     Bad,
-}
-
-fn wide(b: u8) -> u32
-    ensures { λ r. ⌜ r ≡ b ⌝ }
-{
-    b as u32
 }
 
 // ---- numbers

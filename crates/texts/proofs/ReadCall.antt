@@ -1,17 +1,16 @@
 -- The read call: each answer, and what it leaves. Assumes nothing.
 --   refuse-locks .. refuse-words   the refusals, in the order of the checks
---   survey-waits, body-inside      what the first pass needs
 --   rows-wait, records-wait        what the second pass needs
 --   accept                         the slices filled, and both counts
-use mathlib.Core.Path.{_≡_, refl, sym, ap, ap₂, _∙_}
+use mathlib.Core.Path.{_≡_, refl, sym, ap, _∙_}
 use mathlib.Core.Bool.{Bool, false, not, cond}
 use mathlib.Core.List.{List, _++_, map}
-use Prim.Native.Nat.{ℕ, zero, suc, _+_, _-_, _*_, _/_, _≤_, _<_}
+use Prim.Native.Nat.{ℕ, _+_, _*_, _/_, _≤_, _<_}
 use native.Mathlib.Nat.{zero-add}
 use native.Mathlib.Omega.{arith}
 use lib.Dec.{eqb}
-use lib.ListN.{length, take, drop, length-map, length-drop}
-use lib.Seq.{sets, sets-eq, take-all}
+use lib.ListN.{length, drop, length-map}
+use lib.Seq.{sets, sets-eq}
 use borrow.Author.Tests.{eq-eqb, ne-eqb, lt-ltb, le-ltb}
 use Rattle.operations.specs.Limits.{recordWords}
 use Rattle.checks.specs.Check.{Answer, done, refused, verdict}
@@ -19,54 +18,19 @@ use Rattle.checks.specs.Table.{Table}
 use Rattle.checks.specs.Checks.{locksDiffer, masksDiffer, valuesDiffer}
 use Rattle.grammar.specs.Limits.{textLimit}
 use Rattle.grammar.specs.Lists.{filled}
-use Rattle.grammar.specs.Words.{Edition}
 use Rattle.grammar.specs.Print.{LineRow, Line}
-use Rattle.grammar.specs.Lines.{linesFrom, Opening as Opened, opening, linesIn, firstBad, rowsIn, wordsIn, tableIn, tableRead}
-use Rattle.grammar.proofs.Openings.{opening-first, opening-inside, lines-after}
-use Rattle.grammar.proofs.Sorted.{bad-any}
+use Rattle.grammar.specs.Lines.{linesFrom, opening, linesIn, rowsIn, wordsIn, tableIn, tableRead}
 use Rattle.lines.specs.declared.edition.Opening.{Opening}
-use Rattle.lines.specs.Model.{editionModel, openingModel}
+use Rattle.lines.specs.Model.{openingModel}
 use Rattle.texts.specs.Calls.{textOver, badLine, rowsExceed, wordsExceed, readChecks, Counts, countsOf, ReadBack, readAs, readOf}
 use Rattle.texts.proofs.ReadChecks.{ReadPassed, answer-of-read}
+use Rattle.texts.proofs.Bodies.{edition, body, lines-are, bad-are, good-lines}
 use Rattle.texts.specs.Fill.{Surveyed, RowsWait, RowsRead, RecordsWait, RecordsRead}
 
 -- the answer, by the seven conditions in their order
 abbrev chosen : Bool → Bool → Bool → Bool → Bool → Bool → Bool → ℕ → Counts → Answer Counts
 chosen a b c d e f g n k =
     cond a (refused 2 0) (cond b (refused 2 0) (cond c (refused 2 0) (cond d (refused 11 0) (cond e (refused 12 n) (cond f (refused 13 0) (cond g (refused 13 0) (done k)))))))
-
--- ---- what follows the opening
-
-abbrev edition : Opening → Edition
-edition o = editionModel (o .edition)
-
-abbrev body : List ℕ → Opening → List ℕ
-body text o = take (length text - o .at) (drop (o .at) text)
-
-body-is : (text : List ℕ) (o : Opening) → body text o ≡ drop (o .at) text
-body-is text o = take-all (length text - o .at) (drop (o .at) text) (omega (arith, length-drop (o .at) text))
-
-lines-are : (text : List ℕ) (o : Opening) → openingModel o ≡ opening text → linesIn text ≡ linesFrom (edition o) (body text o)
-lines-are text o e = lines-after text ∙ ap (λ (p : Opened). linesFrom (p .edition) (drop (p .at) text)) (sym e) ∙ ap (linesFrom (edition o)) (sym (body-is text o))
-
-good-from-one : (first : ℕ) (ls : List Line) → 1 ≤ first → firstBad false first ls ≡ 0 → firstBad false 1 ls ≡ 0
-good-from-one zero ls h e = absurd (omega arith)
-good-from-one (suc m) ls h e = bad-any false m 1 ls e
-
--- what the first pass needs
-pub survey-waits : (text : List ℕ) (o : Opening) → openingModel o ≡ opening text → length text ≤ textLimit
-    → (1 ≤ o .first) × (o .first ≤ textLimit) × (length (body text o) ≤ textLimit)
-survey-waits text o e short =
-    let is : o .first ≡ opening text .first = ap (λ (p : Opened). p .first) e in (
-      omega (arith, opening-first text .0),
-      omega (arith, opening-first text .1),
-      omega (arith, ap length (body-is text o), length-drop (o .at) text),
-    )
-
-pub body-inside : (text : List ℕ) (o : Opening) → openingModel o ≡ opening text → o .at ≤ length text
-body-inside text o e = let is : o .at ≡ opening text .at = ap (λ (p : Opened). p .at) e in omega (arith, opening-inside text)
-
--- ---- the answers
 
 module _ (text : List ℕ) (lent : Table) where
   by-conditions : readOf text lent
@@ -115,7 +79,7 @@ module _ (text : List ℕ) (lent : Table) where
 
           module _ (o : Opening) (opened : openingModel o ≡ opening text) (rows records n : ℕ) (s : Surveyed (edition o) (o .first) (body text o) n rows records) where
             bad-is : n ≡ badLine text
-            bad-is = s .bad-is ∙ ap₂ (firstBad false) (ap (λ (p : Opened). p .first) opened) (sym (lines-are text o opened))
+            bad-is = s .bad-is ∙ bad-are text o opened
 
             pub refuse-line : (n ≡ 0 → ⊥) → Leaves 12 n
             refuse-line h =
@@ -132,11 +96,6 @@ module _ (text : List ℕ) (lent : Table) where
               rows-are : length (tableRead text .widths) ≡ rows
               unfolding tableIn
               rows-are = length-map (rowsIn (linesIn text)) (λ r. r .vector .width) ∙ rows-in
-
-              good-lines : firstBad false 1 (linesFrom (edition o) (body text o)) ≡ 0
-              good-lines =
-                  let is : o .first ≡ opening text .first = ap (λ (p : Opened). p .first) opened in
-                  good-from-one (o .first) (linesFrom (edition o) (body text o)) (omega (arith, opening-first text .0)) (sym (s .bad-is) ∙ zero-bad)
 
               words-are : length (tableRead text .words) ≡ recordWords * records
               unfolding tableIn
@@ -161,7 +120,7 @@ module _ (text : List ℕ) (lent : Table) where
                 pub rows-wait : RowsWait (edition o) (body text o) rows (lent .widths) (lent .locks) (lent .masks) (lent .values)
                 rows-wait =
                     record {
-                      good = good-lines;
+                      good = good-lines text o opened good;
                       count = s .rows-is zero-bad;
                       widths-hold = hold;
                       locks-hold = omega (arith, hold, el);

@@ -10,16 +10,11 @@ ghost use Rattle.checks.specs.Model.{lent};
 ghost use Rattle.grammar.specs.Print.{linesText, rowLines, recordLines};
 ghost use Rattle.lines.specs.Put.{Holds, Put};
 ghost use Rattle.texts.specs.Print.{RowsFit, RecordsFit};
+use bits::wide;
 use lines::put::put_record;
 use lines::put::put_row;
 use operations::RECORD_WORDS;
 use operations::Record;
-
-fn wide(b: u8) -> u32
-    ensures { λ r. ⌜ r ≡ b ⌝ }
-{
-    b as u32
-}
 
 // Writes the row lines of a table.
 pub fn put_rows(out: &mut [u8], width: &[u8], lock: &[u8], mask: &[u32], value: &[u32]) -> usize

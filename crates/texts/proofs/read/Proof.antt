@@ -1,7 +1,8 @@
 -- `texts::read`: the checks in their order, then the two fills. Assumes nothing.
 use native.Mathlib.Omega.{arith}
 use Rattle.checks.specs.Model.{lent}
-use Rattle.texts.proofs.ReadCall.{survey-waits, body-inside, refuse-locks, refuse-masks, refuse-values, refuse-length, refuse-line, refuse-rows, refuse-words, rows-wait, records-wait, accept}
+use Rattle.texts.proofs.Bodies.{survey-waits, body-inside}
+use Rattle.texts.proofs.ReadCall.{refuse-locks, refuse-masks, refuse-values, refuse-length, refuse-line, refuse-rows, refuse-words, rows-wait, records-wait, accept}
 use borrow.Author.Needs.{needs}
 use Rattle.texts.proofs.read.Statement.{statement}
 use Rattle.texts.proofs.read.Tie as tie

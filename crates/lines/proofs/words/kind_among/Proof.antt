@@ -3,7 +3,7 @@ use mathlib.Core.Path.{_≡_, refl, sym, _∙_}
 use Prim.Native.Nat.{_≤_, _-_}
 use native.Mathlib.Omega.{arith}
 use lib.ListN.{take, drop}
-use Rattle.operations.specs.Kinds.{kinds, kindCount}
+use Rattle.operations.specs.Kinds.{kinds}
 use Rattle.operations.proofs.Lookup.{count-is, below-kind}
 use Rattle.lines.proofs.KindNames.{named, kind-here, kind-later, kind-none}
 use Rattle.lines.proofs.words.kind_among.Statement.{statement}

@@ -1,8 +1,6 @@
 -- `lines::words::kind_of`: edition 1 has all kinds. Assumes nothing.
 use mathlib.Core.Path.{sym, ap, _∙_}
-use mathlib.Core.List.{List}
 use native.Mathlib.Omega.{arith}
-use Rattle.operations.specs.Kind.{Kind}
 use Rattle.operations.proofs.Lookup.{count-is}
 use Rattle.grammar.specs.Words.{Edition}
 use Rattle.lines.proofs.Editions.{only}
