@@ -1,4 +1,4 @@
-// The mask of a width, and the reversed word, put together from a table of 256 reversed bytes.
+// Numbers of another size, the mask of a width, and the reversed word, put together from a table of 256 reversed bytes.
 ghost use mathlib.Core.Path.{_≡_};
 ghost use Prim.Native.Nat.{_+_, _-_, _*_, _/_, _^_, _≤_, _<_};
 ghost use Rattle.bits.specs.Limits.{widthLimit};
@@ -8,6 +8,20 @@ use reversed_bytes::REVERSED;
 use reversed_bytes::reverse_byte;
 
 mod reversed_bytes; // reversed_bytes.rt: the table
+
+// A byte as a word.
+pub fn wide(x: u8) -> u32
+    ensures { λ r. ⌜ r ≡ x ⌝ }
+{
+    x as u32
+}
+
+// A word as an index.
+pub fn index(x: u32) -> usize
+    ensures { λ r. ⌜ r ≡ x ⌝ }
+{
+    x as usize
+}
 
 // Ones below the width. A shift to the right, since a shift to the left by 32 is none of u32's.
 pub fn width_mask(w: u32) -> u32

@@ -8,14 +8,13 @@ use mathlib.Core.Logic.{inl, inr}
 use mathlib.Core.List.{List, [], _∷_}
 use Prim.Native.Nat.{ℕ, zero, suc, _+_, _*_, _/_, _%_, _^_, _<_}
 use native.Mathlib.Nat.{mod-lt, zero-lt-suc, mod-eq-of-lt, div-one, div-div-eq-div-mul, pow-suc, pow-succ', add-mul, mul-assoc, add-assoc, zero-mul, zero-add}
-use native.Mathlib.Numerals.{one-add}
 use native.Mathlib.Omega.{arith}
 use lib.Dec.{T, eqb, eqb→eq}
-use lib.Pow.{mod-pow-add}
 use lib.ListN.{length}
 use Rattle.bits.specs.Bit.{bit}
 use Rattle.bits.proofs.Bools.{T-left, T-right, T-and, T-or}
 use Rattle.bits.proofs.Bits.{bit-lt, digit-lt}
+use Rattle.bits.proofs.Shifts.{mod-pow-suc}
 use Rattle.vectors.specs.Row.{Row, WellFormed}
 use Rattle.grammar.specs.Lists.{allOf}
 use Rattle.grammar.specs.Words.{letter0, letter1, letterX, threeLetters}
@@ -78,10 +77,6 @@ letters-letters zero m v = tt
 letters-letters (suc w) m v =
     T-and (isLetter threeLetters (letter (bit m w) (bit v w))) (allOf (isLetter threeLetters) (lettersOf w m v)) (letter-is (bit m w) (bit v w)) (letters-letters w m v)
 
-low-bits : (n w : ℕ) → n % 2 ^ suc w ≡ bit n w * 2 ^ w + n % 2 ^ w
-unfolding bit
-low-bits n w = ap (λ (x : ℕ). n % 2 ^ x) (sym (one-add w)) ∙ mod-pow-add n 1 w
-
 -- d tells bit k of x from letter k
 numeral-letters : (d : ℕ → ℕ) (x m v w : ℕ) → ((k : ℕ) → k < w → d (letter (bit m k) (bit v k)) ≡ bit x k) → (n : ℕ) → numeral 2 d n (lettersOf w m v) ≡ n * 2 ^ w + x % 2 ^ w
 unfolding numeral lettersOf
@@ -91,7 +86,7 @@ numeral-letters d x m v (suc w) h n =
     ∙ ap (λ (y : ℕ). (n * 2 + y) * 2 ^ w + x % 2 ^ w) (h w (omega arith))
     ∙ ap (λ (y : ℕ). y + x % 2 ^ w) (add-mul (n * 2) (bit x w) (2 ^ w) ∙ ap (λ (y : ℕ). y + bit x w * 2 ^ w) (mul-assoc n 2 (2 ^ w) ∙ ap (λ (y : ℕ). n * y) (sym (pow-succ' 2 w))))
     ∙ add-assoc (n * 2 ^ suc w) (bit x w * 2 ^ w) (x % 2 ^ w)
-    ∙ ap (λ (y : ℕ). n * 2 ^ suc w + y) (sym (low-bits x w))
+    ∙ ap (λ (y : ℕ). n * 2 ^ suc w + y) (sym (mod-pow-suc x w))
 
 whole : (x w : ℕ) → x < 2 ^ w → 0 * 2 ^ w + x % 2 ^ w ≡ x
 whole x w h = ap₂ (λ (a b : ℕ). a + b) (zero-mul (2 ^ w)) (mod-eq-of-lt h) ∙ zero-add x

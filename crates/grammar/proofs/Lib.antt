@@ -11,6 +11,7 @@ pub mod LineTrips
 pub mod LineBacks
 pub mod Listed
 pub mod Sorted
+pub mod Openings
 pub mod WordUses
 pub mod WriteRead
 pub mod ReadWrite

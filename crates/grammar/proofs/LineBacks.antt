@@ -54,7 +54,7 @@ row-back (lock ∷ vector ∷ []) =
     (λ t u. (
       ap₂ {C = List (List ℕ)} (λ (x y : List ℕ). rowWord ∷ x ∷ y ∷ [])
           (lock-back lock (T-left (isLock lock) (isVector threeLetters vector) t))
-          (letters-back vector 0 0 (vector-tests vector (T-right (isLock lock) (isVector threeLetters vector) t) .letters)),
+          (letters-back vector 0 0 (vector-tests threeLetters vector (T-right (isLock lock) (isVector threeLetters vector) t) .letters)),
       tt,
     ))
     (λ t u. absurd u)

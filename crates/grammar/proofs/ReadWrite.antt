@@ -18,7 +18,7 @@ use Rattle.grammar.specs.Words.{lf, tab, edition1}
 use Rattle.grammar.specs.Print.{LineRow, Line, rowLine, recordLine, outside, fieldsOf, joined, lineText, linesText, lineRow, rowLines, recordLines, tableLines, textOf}
 use Rattle.grammar.specs.Cut.{pieces}
 use Rattle.grammar.specs.Line.{lineOf}
-use Rattle.grammar.specs.Lines.{linesOf, linesIn, firstBad, rowsIn, wordsIn, tableIn, tableRead}
+use Rattle.grammar.specs.Lines.{linesOf, opening, linesIn, firstBad, rowsIn, wordsIn, tableIn, tableRead}
 use Rattle.grammar.proofs.Cuts.{joined-pieces}
 use Rattle.grammar.proofs.LineBacks.{isOutside, Shaped, line-back}
 use Rattle.grammar.proofs.Listed.{listed-ext, listed-getD, listed-map}
@@ -92,12 +92,13 @@ module _ (ls : List Line) (good : firstBad false 1 ls ≡ 0) (shaped : All Shape
   unfolding tableLines
   table-lines = ap₂ (λ (x y : List Line). x ++ y) rows-lines records-lines ∙ rows-first 0 ls good
 
-module _ (text : List ℕ) (good : firstBad false 1 (linesIn text) ≡ 0) where
+module _ (text : List ℕ) (good : firstBad false (opening text .first) (linesIn text) ≡ 0) where
   shapes : All Shaped (linesIn text)
   unfolding linesIn
   shapes = lines-back (pieces lf text) false 0 good .1
 
   pub records-whole : (n : ℕ) × (length (wordsIn (linesIn text)) ≡ n * recordWords)
+  unfolding opening
   records-whole = (length (recordsOf (linesIn text)), words-whole (linesIn text) good shapes)
 
   pub table-text : textOf (tableRead text) ≡ text

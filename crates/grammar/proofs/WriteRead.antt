@@ -16,11 +16,11 @@ use Rattle.checks.specs.Table.{Table, recordCount, recordOf}
 use Rattle.checks.specs.Accepted.{TablePassed}
 use Rattle.bits.specs.Counted.{listed}
 use Rattle.grammar.specs.Lists.{allOf}
-use Rattle.grammar.specs.Words.{lf, tab, edition1}
+use Rattle.grammar.specs.Words.{lf, tab, Edition, edition1}
 use Rattle.grammar.specs.Print.{LineRow, Line, rowLine, recordLine, outside, fieldsOf, joined, lineText, linesText, lineRow, rowLines, recordLines, tableLines, textOf}
 use Rattle.grammar.specs.Cut.{pieces}
 use Rattle.grammar.specs.Line.{lineOf}
-use Rattle.grammar.specs.Lines.{linesOf, linesIn, firstBad, rowsIn, wordsIn, tableIn, tableRead}
+use Rattle.grammar.specs.Lines.{linesOf, linesFrom, opening, linesIn, firstBad, rowsIn, wordsIn, tableIn, tableRead}
 use Rattle.grammar.proofs.Tests.{ne→neqb, allOf-imp}
 use Rattle.grammar.proofs.Cuts.{without, pieces-cut, pieces-joined, by-first, all-joined}
 use Rattle.grammar.proofs.Names.{clean}
@@ -45,9 +45,9 @@ fields-cut l fits = cut-fields l fits (allOf-imp clean (without tab) (clean-with
 no-end : (l : Line) → LineFits l → T (without lf (joined tab (fieldsOf l)))
 no-end l fits = all-joined (λ b. not (eqb b lf)) tab tt (fieldsOf l) (allOf-imp clean (without lf) (clean-without lf (omega arith)) (fieldsOf l) (fields-clean l fits))
 
-pub next-line : (p : List ℕ) (text : List ℕ) → linesOf edition1 (p ∷ pieces lf text) ≡ lineOf edition1 (pieces tab p) ∷ linesOf edition1 (pieces lf text)
+pub next-line : (e : Edition) (p text : List ℕ) → linesOf e (p ∷ pieces lf text) ≡ lineOf e (pieces tab p) ∷ linesFrom e text
 unfolding linesOf
-next-line p text = by-first (λ (ps : List (List ℕ)). linesOf edition1 (p ∷ ps) ≡ lineOf edition1 (pieces tab p) ∷ linesOf edition1 ps) (λ q qs. refl) lf text
+next-line e p text = by-first (λ (ps : List (List ℕ)). linesOf e (p ∷ ps) ≡ lineOf e (pieces tab p) ∷ linesOf e ps) (λ q qs. refl) lf text
 
 lines-read : (ls : List Line) → All LineFits ls → linesIn (linesText ls) ≡ ls
 unfolding linesIn linesText lineText
@@ -55,7 +55,7 @@ lines-read [] h = unfold linesOf pieces in refl
 lines-read (l ∷ ls) h =
     ap (λ (x : List ℕ). linesOf edition1 (pieces lf x)) (append-snoc (joined tab (fieldsOf l)) lf (linesText ls))
     ∙ ap (linesOf edition1) (pieces-cut lf (joined tab (fieldsOf l)) (linesText ls) (no-end l (h .0)))
-    ∙ next-line (joined tab (fieldsOf l)) (linesText ls)
+    ∙ next-line edition1 (joined tab (fieldsOf l)) (linesText ls)
     ∙ ap₂ {C = List Line} _∷_ (ap (lineOf edition1) (fields-cut l (h .0)) ∙ line-trip l (h .0)) (lines-read ls (h .1))
 
 -- ---- a table that passed
@@ -72,8 +72,8 @@ module _ (t : Table) (P : TablePassed t) where
   unfolding textOf
   text-lines = lines-read (tableLines t) lines-fit
 
-  pub text-good : firstBad false 1 (linesIn (textOf t)) ≡ 0
-  unfolding tableLines
+  pub text-good : firstBad false (opening (textOf t) .first) (linesIn (textOf t)) ≡ 0
+  unfolding tableLines opening
   text-good = ap (firstBad false 1) text-lines ∙ bad-none (lineRow t) (recordOf t) 1 (length (t .widths)) (recordCount t)
 
   rows-are : rowsIn (linesIn (textOf t)) ≡ listed (lineRow t) 0 (length (t .widths))

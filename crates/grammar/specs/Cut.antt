@@ -6,7 +6,8 @@
 --   Ends               where a part of a text begins and ends;   between bs e   the bytes there
 --   partEnds c n bs    the ends of part n, from 1, of the bytes cut at c; an empty part where there is none
 --   within line field  ends inside a line, as ends inside the text;   fieldEnds   the ends of the field named
---   Part               bytes and where they lie: a block and an offset;   partAt p e   the part of p between the ends e;   fieldOf   the part of the lent text that field hands back
+--   Part               bytes and where they lie: a block and an offset;   partAt p e   the part of p between the ends e
+--   fieldOf            the part of the lent text that field hands back
 use mathlib.Core.Bool.{cond}
 use mathlib.Core.List.{List, [], _∷_}
 use Prim.Native.Nat.{ℕ, zero, suc, _+_, _-_}

@@ -1,12 +1,15 @@
 -- The lines of a text and what they hold (01, "Text" and "Who can cause a refusal").
 --   isEmpty bs            there is no byte
---   linesOf e ps          the lines of a text cut at LF;   linesIn text   the lines of a text
+--   linesOf e ps          the lines of a text cut at LF, read by the edition e;   linesFrom e text   those of a text, or of the rest of one
+--   Opening, opening text what the first line says: the edition of the text, and where and with which number its first row or record line begins
+--   linesIn text          the row lines and record lines of a text
 --   firstBad later n ls   the number of the first bad line, counted on from n, or 0 where there is none
 --   rowsIn, wordsIn       the rows and the record words of lines
 --   tableIn ls            the table that lines hold;   tableRead text   the table that a text holds
 use mathlib.Core.Bool.{Bool, true, false, cond}
 use mathlib.Core.List.{List, [], _∷_, _++_, map}
 use Prim.Native.Nat.{ℕ, suc}
+use lib.ListN.{drop}
 use Rattle.checks.specs.Table.{Table}
 use Rattle.grammar.specs.Words.{lf, tab, Edition, edition1}
 use Rattle.grammar.specs.Print.{LineRow, Line, rowLine, recordLine, outside}
@@ -23,8 +26,22 @@ linesOf e [] = []
 linesOf e (p ∷ []) = cond (isEmpty p) [] (outside ∷ [])
 linesOf e (p ∷ q ∷ ps) = lineOf e (pieces tab p) ∷ linesOf e (q ∷ ps)
 
+abbrev pub linesFrom : Edition → List ℕ → List Line
+linesFrom e text = linesOf e (pieces lf text)
+
+pub record Opening : Type 0 where
+  pub edition : Edition
+  pub at : ℕ
+  pub first : ℕ
+
+-- Edition 1 has no header line: its row lines begin with the first byte, and the first of them is line 1.
+unfoldable pub opening : List ℕ → Opening
+opening text = record { edition = edition1; at = 0; first = 1 }
+
+-- Whoever unfolds the lines unfolds the opening with them.
 unfoldable pub linesIn : List ℕ → List Line
-linesIn text = linesOf edition1 (pieces lf text)
+unfolding opening
+linesIn text = linesFrom (opening text .edition) (drop (opening text .at) text)
 
 -- "a line outside the grammar, a row line after a record line, or no final LF"; later: a record line came before
 unfoldable pub firstBad : Bool → ℕ → List Line → ℕ

@@ -4,7 +4,7 @@
 --   zeroByte           the byte of the digit 0;   letter0, letter1, letterX   the letters of a vector
 --   Alphabet           the letters that stand for 0, for 1 and for X;   threeLetters   those of 01
 --   Edition            what a reader goes by: letters, operations, and how many numbers a record line has;   edition1   that of 01
--- Edition 1 has no header line: textOf (Print) begins with the rows, and linesIn (Lines) reads every text by edition1.
+-- Edition 1 has no header line: textOf (Print) begins with the rows, and opening (Lines) says that every text is of edition1.
 use Prim.Native.Nat.{ℕ, _-_}
 use mathlib.Core.Bool.{cond}
 use mathlib.Core.List.{List, [], _∷_}

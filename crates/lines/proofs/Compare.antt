@@ -4,6 +4,7 @@
 use mathlib.Core.Path.{_≡_, refl, sym, ap, subst, _∙_}
 use mathlib.Core.Bool.{Bool, true, false, _||_}
 use mathlib.Core.List.{List}
+use mathlib.Core.Option.{some, none}
 use Prim.Native.Nat.{ℕ, _<_}
 use lib.Dec.{T}
 use lib.ListN.{length, getD}
@@ -14,7 +15,7 @@ use Rattle.grammar.specs.Words.{openWord, lockedWord}
 use Rattle.grammar.proofs.Tests.{other-word, eq→same}
 use Rattle.grammar.specs.Line.{isLock, lockOf}
 use Rattle.bits.proofs.Bools.{T-inr}
-use Rattle.lines.specs.Reads.{Tells}
+use Rattle.lines.specs.Reads.{reading}
 use Rattle.lines.proofs.Telling.{tells, tells-not}
 
 pub other-length : (a b : List ℕ) → (length b ≡ length a → ⊥) → false ≡ same a b
@@ -30,26 +31,26 @@ all-same a b e h = sym (eq→same a b (ext-getD 0 a b e h))
 
 -- by the answers r and s of the two comparisons
 module _ (f : List ℕ) (r : Bool) (er : r ≡ same f lockedWord) where
-  pub is-locked : r ≡ true → Tells (isLock f) (lockOf f) true 1
+  pub is-locked : r ≡ true → some 1 ≡ reading (isLock f) (lockOf f)
   is-locked t = go (same f openWord) (same f lockedWord) (sym t ∙ er)
     where
-      go : (p q : Bool) → true ≡ q → Tells (p || q) (digit q) true 1
+      go : (p q : Bool) → true ≡ q → some 1 ≡ reading (p || q) (digit q)
       go p true e = tells (p || true) 1 1 (T-inr p true tt) refl
       go p false e = absurd (subst T e tt)
 
   module _ (s : Bool) (es : s ≡ same f openWord) where
-    pub is-open : r ≡ false → s ≡ true → Tells (isLock f) (lockOf f) true 0
+    pub is-open : r ≡ false → s ≡ true → some 0 ≡ reading (isLock f) (lockOf f)
     is-open t u = go (same f openWord) (same f lockedWord) (sym u ∙ es) (sym t ∙ er)
       where
-        go : (p q : Bool) → true ≡ p → false ≡ q → Tells (p || q) (digit q) true 0
+        go : (p q : Bool) → true ≡ p → false ≡ q → some 0 ≡ reading (p || q) (digit q)
         go true false e g = tells true 0 0 tt refl
         go true true e g = absurd (subst T (sym g) tt)
         go false q e g = absurd (subst T e tt)
 
-    pub no-lock : r ≡ false → s ≡ false → Tells (isLock f) (lockOf f) false 0
+    pub no-lock : r ≡ false → s ≡ false → none ≡ reading (isLock f) (lockOf f)
     no-lock t u = go (same f openWord) (same f lockedWord) (sym u ∙ es) (sym t ∙ er)
       where
-        go : (p q : Bool) → false ≡ p → false ≡ q → Tells (p || q) (digit q) false 0
-        go false false e g = tells-not false 0 0 (λ t. t)
+        go : (p q : Bool) → false ≡ p → false ≡ q → none ≡ reading (p || q) (digit q)
+        go false false e g = tells-not false 0 (λ t. t)
         go true q e g = absurd (subst T (sym e) tt)
         go false true e g = absurd (subst T (sym g) tt)

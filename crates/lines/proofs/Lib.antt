@@ -1,5 +1,6 @@
 -- The laws and proofs of `lines`.
 pub mod Telling
+pub mod Editions
 pub mod Scans
 pub mod Compare
 pub mod KindNames

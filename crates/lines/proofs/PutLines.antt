@@ -7,7 +7,9 @@ use mathlib.Core.List.{List, [], _∷_, _++_, append-assoc}
 use Prim.Native.Nat.{ℕ}
 use borrow.Author.Tests.{eq-eqb, ne-eqb}
 use Rattle.vectors.specs.Row.{row}
+use Rattle.operations.specs.declared.Record.{Record}
 use Rattle.operations.specs.Kinds.{kindOf}
+use Rattle.operations.specs.Record.{wordsOf}
 use Rattle.grammar.specs.Words.{lf, tab, openWord, lockedWord, lockWord}
 use Rattle.grammar.specs.Print.{decimal, lettersOf, rowLine, recordLine, fieldsOf, joined, lineText}
 use Rattle.lines.proofs.Puts.{Writing, begin}
@@ -39,24 +41,24 @@ module _ (lock w m v : ℕ) where
 
 -- ---- a record line
 
-module _ (k t a b p : ℕ) where
+module _ (r : Record) where
   abbrev pub recordText : List ℕ
-  recordText = lineText (recordLine (k ∷ t ∷ a ∷ b ∷ p ∷ []))
+  recordText = lineText (recordLine (wordsOf r))
 
   abbrev pub after-b : List ℕ
-  after-b = (tab ∷ decimal p) ++ lf ∷ []
+  after-b = (tab ∷ decimal (r .p)) ++ lf ∷ []
 
   abbrev pub after-a : List ℕ
-  after-a = (tab ∷ decimal b) ++ after-b
+  after-a = (tab ∷ decimal (r .b)) ++ after-b
 
   abbrev pub after-t : List ℕ
-  after-t = (tab ∷ decimal a) ++ after-a
+  after-t = (tab ∷ decimal (r .a)) ++ after-a
 
   abbrev pub after-name : List ℕ
-  after-name = (tab ∷ decimal t) ++ after-t
+  after-name = (tab ∷ decimal (r .t)) ++ after-t
 
   abbrev pub after-op : List ℕ
-  after-op = kindOf k .name ++ after-name
+  after-op = kindOf (r .kind) .name ++ after-name
 
   record-whole : 111 ∷ 112 ∷ tab ∷ after-op ≡ recordText
   unfolding lineText fieldsOf joined

@@ -2,8 +2,9 @@
 --   too-short, leading-zero, just-zero, too-low, too-high, too-great   the ways out before the end
 --   So-far, begin, more, done                                          the loop
 use mathlib.Core.Path.{_≡_, refl, sym, ap, _∙_, subst}
-use mathlib.Core.Bool.{Bool, true, false, not}
+use mathlib.Core.Bool.{true, not}
 use mathlib.Core.List.{List, [], _∷_}
+use mathlib.Core.Option.{Option, some, none}
 use Prim.Native.Nat.{ℕ, suc, _+_, _-_, _*_, _≤_, _<_}
 use native.Mathlib.Numerals.{add-one}
 use native.Mathlib.Omega.{arith}
@@ -16,39 +17,39 @@ use Rattle.grammar.specs.Line.{numeral, isDigit, leadingZero, isNumber, numberO
 use Rattle.grammar.proofs.Tests.{ne→neqb, neqb→ne, allOf-append, all-at, all-one, all-none}
 use Rattle.grammar.proofs.Decimals.{digitOf}
 use Rattle.grammar.proofs.Numbers.{digit-is, digit-least, digit-most, Number, number-tests, number-from}
-use Rattle.lines.specs.Reads.{Tells}
+use Rattle.lines.specs.Reads.{reading}
 use Rattle.lines.proofs.Telling.{tells, tells-not}
 
 -- ---- no number
 
 -- the answer of the code
-abbrev pub Read : List ℕ → Bool → ℕ → Type 0
-Read f good n = Tells (isNumber f) (numberOf f) good n
+abbrev pub Read : List ℕ → Option ℕ → Type 0
+Read f o = o ≡ reading (isNumber f) (numberOf f)
 
-none : (f : List ℕ) → (Number f → ⊥) → Read f false 0
-none f h = tells-not (isNumber f) (numberOf f) 0 (λ t. h (number-tests f t))
+bad : (f : List ℕ) → (Number f → ⊥) → Read f none
+bad f h = tells-not (isNumber f) (numberOf f) (λ t. h (number-tests f t))
 
-pub too-short : (f : List ℕ) → length f ≡ 0 → Read f false 0
-too-short f e = none f (λ n. omega (arith, n .some))
+pub too-short : (f : List ℕ) → length f ≡ 0 → Read f none
+too-short f e = bad f (λ n. omega (arith, n .some))
 
-pub too-low : (f : List ℕ) (i b : ℕ) → i < length f → b ≡ getD f i 0 → b < 48 → Read f false 0
-too-low f i b h e l = none f (λ n. omega (arith, digit-least (getD f i 0) (all-at isDigit f 0 i h (n .all-digits))))
+pub too-low : (f : List ℕ) (i b : ℕ) → i < length f → b ≡ getD f i 0 → b < 48 → Read f none
+too-low f i b h e l = bad f (λ n. omega (arith, digit-least (getD f i 0) (all-at isDigit f 0 i h (n .all-digits))))
 
-pub too-high : (f : List ℕ) (i b : ℕ) → i < length f → b ≡ getD f i 0 → 57 < b → Read f false 0
-too-high f i b h e l = none f (λ n. omega (arith, digit-most (getD f i 0) (all-at isDigit f 0 i h (n .all-digits))))
+pub too-high : (f : List ℕ) (i b : ℕ) → i < length f → b ≡ getD f i 0 → 57 < b → Read f none
+too-high f i b h e l = bad f (λ n. omega (arith, digit-most (getD f i 0) (all-at isDigit f 0 i h (n .all-digits))))
 
 zero-first : (f : List ℕ) → getD f 0 0 ≡ 48 → (length f ≡ 1 → ⊥) → T (not (leadingZero f)) → ⊥
 zero-first [] e l t = omega arith
 zero-first (b ∷ []) e l t = l refl
 zero-first (b ∷ c ∷ f) e l t = neqb→ne b 48 t e
 
-pub leading-zero : (f : List ℕ) → getD f 0 0 ≡ 48 → (length f ≡ 1 → ⊥) → Read f false 0
-leading-zero f e l = none f (λ n. zero-first f e l (n .no-zero))
+pub leading-zero : (f : List ℕ) → getD f 0 0 ≡ 48 → (length f ≡ 1 → ⊥) → Read f none
+leading-zero f e l = bad f (λ n. zero-first f e l (n .no-zero))
 
-pub just-zero : (f : List ℕ) → getD f 0 0 ≡ 48 → length f ≡ 1 → Read f true 0
+pub just-zero : (f : List ℕ) → getD f 0 0 ≡ 48 → length f ≡ 1 → Read f (some 0)
 unfolding isNumber numberOf numeral allOf
 just-zero [] e l = absurd (omega arith)
-just-zero (b ∷ []) e l = subst (λ (x : ℕ). Read (x ∷ []) true 0) (sym e) (tells true 0 0 tt refl)
+just-zero (b ∷ []) e l = subst (λ (x : ℕ). Read (x ∷ []) (some 0)) (sym e) (tells true 0 0 tt refl)
 just-zero (b ∷ c ∷ f) e l = absurd (omega arith)
 
 -- ---- the loop
@@ -77,8 +78,8 @@ module _ (f : List ℕ) (i n b : ℕ) (h : i < length f) (e : b ≡ getD f i 0) 
       ∙ sym (ap (numeral 10 digitOf n) (drop-cons f i 0 h))
       ∙ s .rest
 
-  pub too-great : numberLimit < n * 10 + (b - 48) → Read f false 0
-  too-great l = none f (λ q. omega (arith, q .small, next, numeral-least (n * 10 + (b - 48)) (drop (i + 1) f)))
+  pub too-great : numberLimit < n * 10 + (b - 48) → Read f none
+  too-great l = bad f (λ q. omega (arith, q .small, next, numeral-least (n * 10 + (b - 48)) (drop (i + 1) f)))
 
   pub more : n * 10 + (b - 48) ≤ numberLimit → So-far f (i + 1) (n * 10 + (b - 48))
   more l =
@@ -94,7 +95,7 @@ not-zero [] z = tt
 not-zero (b ∷ []) z = tt
 not-zero (b ∷ c ∷ f) z = ne→neqb b 48 z
 
-pub done : (f : List ℕ) (i n : ℕ) → length f ≤ i → i ≤ length f → (length f ≡ 0 → ⊥) → (getD f 0 0 ≡ 48 → ⊥) → So-far f i n → Read f true n
+pub done : (f : List ℕ) (i n : ℕ) → length f ≤ i → i ≤ length f → (length f ≡ 0 → ⊥) → (getD f 0 0 ≡ 48 → ⊥) → So-far f i n → Read f (some n)
 unfolding numeral
 done f i n h h′ l z s =
     let e : i ≡ length f = omega arith in

@@ -1,9 +1,8 @@
--- What the reading functions of the code answer of a field: whether it is in the grammar, and then what it stands for.
---   Tells test value good given   `good` is the test's answer; where the test holds, what is given is the value
-use mathlib.Core.Path.{_≡_}
-use mathlib.Core.Bool.{Bool}
-use lib.Dec.{T}
+-- What a field of a line tells.
+--   reading test value   the value, where the test says that the field is in the grammar
+use mathlib.Core.Bool.{Bool, true, false}
+use mathlib.Core.Option.{Option, some, none}
 
-pub record Tells {A : Type 0} (test : Bool) (value : A) (good : Bool) (given : A) : Type 0 where
-  pub good-is : good ≡ test
-  pub given-is : T test → given ≡ value
+abbrev pub reading : {A : Type 0} → Bool → A → Option A
+reading true value = some value
+reading false value = none

@@ -1,127 +1,120 @@
 // What a field of a line tells: a number, a vector (01, "Text").
 ghost use mathlib.Core.Path.{_≡_};
-ghost use Rattle.grammar.specs.Words.{threeLetters};
-ghost use Rattle.vectors.specs.Row.{row};
 ghost use Rattle.grammar.specs.Line.{isLetter, maskBit, valueBit, isNumber, numberOf, isVector, vectorOf};
-ghost use Rattle.lines.specs.Reads.{Tells};
+ghost use Rattle.lines.specs.Reads.{reading};
+ghost use Rattle.lines.specs.Model.{editionModel, numberModel, vectorModel};
+use crate::edition::Edition;
 use crate::limits::NUMBER_LIMIT;
 use crate::limits::WIDTH_LIMIT;
-use crate::words::NOT_TOLD;
-use crate::words::Told;
+use bits::wide;
 
-fn wide(b: u8) -> u32
-    ensures { λ r. ⌜ r ≡ b ⌝ }
-{
-    b as u32
+// What a field tells where it stands for a number, a lock or a kind.
+pub enum NumberField {
+    Number(u32),
+    Bad,
+}
+
+// What a field tells where it stands for a vector.
+pub enum VectorField {
+    Vector { width: u32, mask: u32, value: u32 },
+    Bad,
 }
 
 // ---- numbers
 
 // The number that a field stands for.
-pub fn number(f: &[u8]) -> Told
-    ensures { λ r. ⌜ Tells (isNumber (now (f .entry))) (numberOf (now (f .entry))) (r .good) (r .number) ⌝ }
+pub fn number(f: &[u8]) -> NumberField
+    ensures { λ r. ⌜ numberModel r ≡ reading (isNumber (now (f .entry))) (numberOf (now (f .entry))) ⌝ }
 {
     let len = f.len();
     if len == 0 {
-        return NOT_TOLD;
+        return NumberField::Bad;
     }
     if f[0] == b'0' {
         if len == 1 {
-            return Told {
-                good: true,
-                number: 0,
-            };
+            return NumberField::Number(0);
         }
-        return NOT_TOLD;
+        return NumberField::Bad;
     }
     let mut n: u32 = 0;
     let mut i = 0;
     while i < len {
         let b = wide(f[i]);
         if b < 48 {
-            return NOT_TOLD;
+            return NumberField::Bad;
         }
         if 57 < b {
-            return NOT_TOLD;
+            return NumberField::Bad;
         }
         n = n * 10 + (b - 48);
         if NUMBER_LIMIT < n {
-            return NOT_TOLD;
+            return NumberField::Bad;
         }
         i += 1;
     }
-    Told {
-        good: true,
-        number: n,
-    }
+    NumberField::Number(n)
 }
 
 // ---- letters
 
-fn is_letter(b: u8) -> bool
-    ensures { λ r. ⌜ r ≡ isLetter threeLetters b ⌝ }
+fn is_letter(e: Edition, b: u8) -> bool
+    ensures { λ r. ⌜ r ≡ isLetter (editionModel e .letters) b ⌝ }
 {
-    if b == b'0' {
-        return true;
+    match e {
+        Edition::First => {
+            if b == b'0' {
+                return true;
+            }
+            if b == b'1' {
+                return true;
+            }
+            b == b'X'
+        }
     }
-    if b == b'1' {
-        return true;
+}
+
+fn mask_bit(e: Edition, b: u8) -> u32
+    ensures { λ r. ⌜ r ≡ maskBit (editionModel e .letters) b ⌝ }
+{
+    match e {
+        Edition::First => if b == b'X' { 1 } else { 0 },
     }
-    b == b'X'
 }
 
-fn mask_bit(b: u8) -> u32
-    ensures { λ r. ⌜ r ≡ maskBit threeLetters b ⌝ }
+fn value_bit(e: Edition, b: u8) -> u32
+    ensures { λ r. ⌜ r ≡ valueBit (editionModel e .letters) b ⌝ }
 {
-    if b == b'X' { 1 } else { 0 }
+    match e {
+        Edition::First => if b == b'1' { 1 } else { 0 },
+    }
 }
-
-fn value_bit(b: u8) -> u32
-    ensures { λ r. ⌜ r ≡ valueBit threeLetters b ⌝ }
-{
-    if b == b'1' { 1 } else { 0 }
-}
-
-pub struct Planes {
-    pub good: bool,
-    pub width: u32,
-    pub mask: u32,
-    pub value: u32,
-}
-
-// Of a field that tells no vector.
-const NO_VECTOR: Planes = Planes {
-    good: false,
-    width: 0,
-    mask: 0,
-    value: 0,
-};
 
 // The vector that a field tells.
-pub fn vector(f: &[u8]) -> Planes
-    ensures { λ r. ⌜ Tells (isVector threeLetters (now (f .entry))) (vectorOf threeLetters (now (f .entry))) (r .good) (row (r .width) (r .mask) (r .value)) ⌝ }
+pub fn vector(e: Edition, f: &[u8]) -> VectorField
+    ensures { λ r.
+        let a = editionModel e .letters in
+        ⌜ vectorModel r ≡ reading (isVector a (now (f .entry))) (vectorOf a (now (f .entry))) ⌝ }
 {
     let len = f.len();
     if len == 0 {
-        return NO_VECTOR;
+        return VectorField::Bad;
     }
     if WIDTH_LIMIT < len {
-        return NO_VECTOR;
+        return VectorField::Bad;
     }
     let mut m: u32 = 0;
     let mut v: u32 = 0;
     let mut i = 0;
     while i < len {
         let b = f[i];
-        if !is_letter(b) {
-            return NO_VECTOR;
+        if !is_letter(e, b) {
+            return VectorField::Bad;
         }
-        m = m * 2 + mask_bit(b);
-        v = v * 2 + value_bit(b);
+        m = m * 2 + mask_bit(e, b);
+        v = v * 2 + value_bit(e, b);
         i += 1;
     }
-    Planes {
-        good: true,
+    VectorField::Vector {
         width: len as u32,
         mask: m,
         value: v,

@@ -5,12 +5,15 @@ ghost use Prim.Native.Nat.{_≤_, _<_};
 ghost use Rattle.bits.specs.Bit.{bit};
 ghost use Rattle.vectors.specs.Row.{row};
 ghost use Rattle.operations.specs.Kinds.{isKind, kindOf};
+ghost use Rattle.operations.specs.Record.{wordsOf};
+ghost use Rattle.bits.specs.Limits.{widthLimit};
 ghost use lib.Dec.{T};
 ghost use Rattle.grammar.specs.Words.{tab, lockWord};
 ghost use Rattle.grammar.specs.Print.{decimal, letter, lettersOf, rowLine, recordLine, lineText};
 ghost use Rattle.lines.specs.Put.{Holds, Put};
 use crate::cut::LF;
 use crate::cut::TAB;
+use operations::Record;
 use operations::name_byte;
 use operations::name_len;
 
@@ -55,7 +58,7 @@ pub fn put_number(out: &mut [u8], at: usize, n: usize) -> usize
 
 // The letter of bit `k` of a vector.
 fn letter_of(m: u32, v: u32, k: u32) -> u8
-    requires { ⌜ k < 32 ⌝ }
+    requires { ⌜ k < widthLimit ⌝ }
     ensures { λ r. ⌜ r ≡ letter (bit m k) (bit v k) ⌝ }
 {
     if (m >> k) % 2 == 1 {
@@ -69,7 +72,7 @@ fn letter_of(m: u32, v: u32, k: u32) -> u8
 
 // Writes the letters of the lowest `w` bits of a vector, highest first.
 fn put_letters(out: &mut [u8], at: usize, w: u32, m: u32, v: u32) -> usize
-    requires { ⌜ (w ≤ 32) × Holds (now out) at (lettersOf w m v) ⌝ }
+    requires { ⌜ (w ≤ widthLimit) × Holds (now out) at (lettersOf w m v) ⌝ }
     ensures { λ r. ⌜ Put (now (out .entry)) (now (out .exit)) at r (lettersOf w m v) ⌝ }
 {
     let mut k = w;
@@ -94,7 +97,7 @@ fn put_lock(out: &mut [u8], at: usize, lock: u8) -> usize
 
 // Writes a row line.
 pub fn put_row(out: &mut [u8], at: usize, lock: u8, w: u32, m: u32, v: u32) -> usize
-    requires { ⌜ (w ≤ 32) × Holds (now out) at (lineText (rowLine (record { lock = lock; vector = row w m v }))) ⌝ }
+    requires { ⌜ (w ≤ widthLimit) × Holds (now out) at (lineText (rowLine (record { lock = lock; vector = row w m v }))) ⌝ }
     ensures { λ r. ⌜ Put (now (out .entry)) (now (out .exit)) at r (lineText (rowLine (record { lock = lock; vector = row w m v }))) ⌝ }
 {
     let a = put_word(out, at, b"row\t");
@@ -131,23 +134,15 @@ fn put_next(out: &mut [u8], at: usize, n: usize) -> usize
 }
 
 // Writes a record line.
-pub fn put_record(
-    out: &mut [u8],
-    at: usize,
-    kind: usize,
-    t: usize,
-    a: usize,
-    b: usize,
-    p: usize,
-) -> usize
-    requires { ⌜ T (isKind kind) × Holds (now out) at (lineText (recordLine (kind ∷ t ∷ a ∷ b ∷ p ∷ []))) ⌝ }
-    ensures { λ r. ⌜ Put (now (out .entry)) (now (out .exit)) at r (lineText (recordLine (kind ∷ t ∷ a ∷ b ∷ p ∷ []))) ⌝ }
+pub fn put_record(out: &mut [u8], at: usize, r: Record) -> usize
+    requires { ⌜ T (isKind (r .kind)) × Holds (now out) at (lineText (recordLine (wordsOf r))) ⌝ }
+    ensures { λ end. ⌜ Put (now (out .entry)) (now (out .exit)) at end (lineText (recordLine (wordsOf r))) ⌝ }
 {
     let x = put_word(out, at, b"op\t");
-    let y = put_name(out, x, kind);
-    let z = put_next(out, y, t);
-    let u = put_next(out, z, a);
-    let v = put_next(out, u, b);
-    let w = put_next(out, v, p);
+    let y = put_name(out, x, r.kind as usize);
+    let z = put_next(out, y, r.t as usize);
+    let u = put_next(out, z, r.a as usize);
+    let v = put_next(out, u, r.b as usize);
+    let w = put_next(out, v, r.p as usize);
     put_byte(out, w, LF)
 }

@@ -1,10 +1,15 @@
 // Words of a line compared: locks and the names of the operations (01, "Text").
 ghost use mathlib.Core.Path.{_≡_};
+ghost use Prim.Native.Nat.{_≤_};
 ghost use lib.Dec.{T};
-ghost use Rattle.operations.specs.Kinds.{kinds, isKind, kindOf};
+ghost use lib.ListN.{take};
+ghost use Rattle.operations.specs.Kinds.{kinds, kindCount, isKind, kindOf};
 ghost use Rattle.grammar.specs.Lists.{same};
 ghost use Rattle.grammar.specs.Line.{isLock, lockOf, isName, numberNamed};
-ghost use Rattle.lines.specs.Reads.{Tells};
+ghost use Rattle.lines.specs.Reads.{reading};
+ghost use Rattle.lines.specs.Model.{editionModel, numberModel};
+use crate::edition::Edition;
+use crate::fields::NumberField;
 use operations::KINDS;
 use operations::name_byte;
 use operations::name_len;
@@ -27,34 +32,17 @@ pub fn is_word(f: &[u8], w: &[u8]) -> bool
     true
 }
 
-// What a field tells, where `good`.
-pub struct Told {
-    pub good: bool,
-    pub number: u32,
-}
-
-pub const NOT_TOLD: Told = Told {
-    good: false,
-    number: 0,
-};
-
 // The lock that a field names.
-pub fn lock_of(f: &[u8]) -> Told
-    ensures { λ r. ⌜ Tells (isLock (now (f .entry))) (lockOf (now (f .entry))) (r .good) (r .number) ⌝ }
+pub fn lock_of(f: &[u8]) -> NumberField
+    ensures { λ r. ⌜ numberModel r ≡ reading (isLock (now (f .entry))) (lockOf (now (f .entry))) ⌝ }
 {
     if is_word(f, b"locked") {
-        return Told {
-            good: true,
-            number: 1,
-        };
+        return NumberField::Number(1);
     }
     if is_word(f, b"open") {
-        return Told {
-            good: true,
-            number: 0,
-        };
+        return NumberField::Number(0);
     }
-    NOT_TOLD
+    NumberField::Bad
 }
 
 // Does a field hold the name of kind `k`?
@@ -76,19 +64,30 @@ fn is_name(f: &[u8], k: usize) -> bool
     true
 }
 
-// The kind that a field names.
-pub fn kind_of(f: &[u8]) -> Told
-    ensures { λ r. ⌜ Tells (isName (now (f .entry)) kinds) (numberNamed (now (f .entry)) kinds) (r .good) (r .number) ⌝ }
+// The kind among the first `n` that a field names.
+fn kind_among(f: &[u8], n: u32) -> NumberField
+    requires { ⌜ n ≤ kindCount ⌝ }
+    ensures { λ r.
+        let ks = take n kinds in
+        ⌜ numberModel r ≡ reading (isName (now (f .entry)) ks) (numberNamed (now (f .entry)) ks) ⌝ }
 {
     let mut k: u32 = 0;
-    while k < KINDS {
+    while k < n {
         if is_name(f, k as usize) {
-            return Told {
-                good: true,
-                number: k,
-            };
+            return NumberField::Number(k);
         }
         k += 1;
     }
-    NOT_TOLD
+    NumberField::Bad
+}
+
+// The kind that a field names.
+pub fn kind_of(e: Edition, f: &[u8]) -> NumberField
+    ensures { λ r.
+        let ks = editionModel e .operations in
+        ⌜ numberModel r ≡ reading (isName (now (f .entry)) ks) (numberNamed (now (f .entry)) ks) ⌝ }
+{
+    match e {
+        Edition::First => kind_among(f, KINDS),
+    }
 }

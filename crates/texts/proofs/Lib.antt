@@ -5,6 +5,7 @@ pub mod Surveys
 pub mod FillRows
 pub mod RowBytes
 pub mod FillRecords
+pub mod Bodies
 pub mod ReadCall
 pub mod PrintLines
 pub mod WriteCall

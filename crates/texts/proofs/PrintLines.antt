@@ -14,7 +14,8 @@ use Rattle.operations.specs.Kinds.{isKind}
 use lib.ListN.{length, getD, take, drop, length-drop}
 use lib.Seq.{getD-take, getD-drop, length-take-le}
 use Rattle.operations.specs.Limits.{recordWords}
-use Rattle.operations.specs.Record.{kindWord}
+use Rattle.operations.specs.declared.Record.{Record}
+use Rattle.operations.specs.Record.{kindWord, wordsOf}
 use Rattle.checks.specs.Table.{Table, recordOf}
 use Rattle.checks.specs.Model.{lent}
 use Rattle.bits.specs.Counted.{listed}
@@ -45,7 +46,7 @@ five (a ∷ b ∷ c ∷ d ∷ []) e = absurd (omega arith)
 five (a ∷ b ∷ c ∷ d ∷ f ∷ []) e = refl
 five (a ∷ b ∷ c ∷ d ∷ f ∷ g ∷ ws) e = absurd (omega arith)
 
-module _ (words : List ℕ) (i : ℕ) (h : recordWords * i + recordWords ≤ length words) where
+module _ (words : List ℕ) (i : ℕ) (h : i < length words / recordWords) where
   word-at : (k : ℕ) → k < 5 → getD (take recordWords (drop (recordWords * i) words)) k 0 ≡ getD words (recordWords * i + k) 0
   word-at k l = getD-take recordWords (drop (recordWords * i) words) k 0 l ∙ getD-drop (recordWords * i) words k 0
 
@@ -84,24 +85,15 @@ rows-end t i h = lines-end (λ j. rowLine (lineRow t j)) i (length (t .widths)) 
 abbrev pub records-from : List ℕ → ℕ → List ℕ
 records-from words i = linesText (listed (λ j. recordLine (recordOf (lent [] [] [] [] words) j)) i (length words / recordWords - i))
 
-module _ (words : List ℕ) (fits : RecordsFit words) (i : ℕ) (h : i < length words / recordWords) where
-  inside : recordWords * i + recordWords ≤ length words
-  inside = omega (arith, fits .whole)
-
-  words-at : (j k t a b p : ℕ) → j ≡ recordWords * i → k ≡ getD words j 0 → t ≡ getD words (j + 1) 0 → a ≡ getD words (j + 2) 0 → b ≡ getD words (j + 3) 0 → p ≡ getD words (j + 4) 0
-      → recordOf (lent [] [] [] [] words) i ≡ k ∷ t ∷ a ∷ b ∷ p ∷ []
-  words-at j k t a b p e ek et ea eb ep = record-at words i inside j e ∙ (λ ι. sym ek ι ∷ sym et ι ∷ sym ea ι ∷ sym eb ι ∷ sym ep ι ∷ [])
-
-  pub record-on : (j k t a b p : ℕ) → j ≡ recordWords * i → k ≡ getD words j 0 → t ≡ getD words (j + 1) 0 → a ≡ getD words (j + 2) 0 → b ≡ getD words (j + 3) 0 → p ≡ getD words (j + 4) 0
-      → records-from words i ≡ recordText k t a b p ++ records-from words (i + 1)
-  record-on j k t a b p e ek et ea eb ep =
+-- by the record that was read
+module _ (words : List ℕ) (i : ℕ) (h : i < length words / recordWords) (r : Record) (is : wordsOf r ≡ recordOf (lent [] [] [] [] words) i) where
+  pub record-on : records-from words i ≡ recordText r ++ records-from words (i + 1)
+  record-on =
       lines-on (λ j. recordLine (recordOf (lent [] [] [] [] words) j)) i (length words / recordWords) h
-      ∙ ap (λ (x : List ℕ). lineText (recordLine x) ++ records-from words (i + 1)) (words-at j k t a b p e ek et ea eb ep)
+      ∙ ap (λ (x : List ℕ). lineText (recordLine x) ++ records-from words (i + 1)) (sym is)
 
-  pub kind-in : (j k : ℕ) → j ≡ recordWords * i → k ≡ getD words j 0 → T (isKind k)
-  kind-in j k e ek =
-      let same : kindWord (recordOf (lent [] [] [] [] words) i) ≡ k = ap kindWord (words-at j k _ _ _ _ e ek refl refl refl refl) in
-      subst (λ (x : ℕ). T (isKind x)) same (fits .known i h)
+  pub kind-in : RecordsFit words → T (isKind (r .kind))
+  kind-in fits = subst (λ (x : List ℕ). T (isKind (kindWord x))) (sym is) (fits .known i h)
 
 pub records-begin : (words : List ℕ) → records-from words 0 ≡ linesText (recordLines (lent [] [] [] [] words))
 records-begin words = ap (λ (n : ℕ). linesText (listed (λ j. recordLine (recordOf (lent [] [] [] [] words) j)) 0 n)) (sub-zero (length words / recordWords))

@@ -18,10 +18,13 @@ use Rattle.checks.specs.Table.{Table}
 use Rattle.checks.specs.Checks.{locksDiffer, masksDiffer, valuesDiffer}
 use Rattle.grammar.specs.Limits.{textLimit}
 use Rattle.grammar.specs.Lists.{filled}
-use Rattle.grammar.specs.Print.{LineRow}
-use Rattle.grammar.specs.Lines.{linesIn, rowsIn, wordsIn, tableIn, tableRead}
+use Rattle.grammar.specs.Print.{LineRow, Line}
+use Rattle.grammar.specs.Lines.{linesFrom, opening, linesIn, rowsIn, wordsIn, tableIn, tableRead}
+use Rattle.lines.specs.declared.edition.Opening.{Opening}
+use Rattle.lines.specs.Model.{openingModel}
 use Rattle.texts.specs.Calls.{textOver, badLine, rowsExceed, wordsExceed, readChecks, Counts, countsOf, ReadBack, readAs, readOf}
 use Rattle.texts.proofs.ReadChecks.{ReadPassed, answer-of-read}
+use Rattle.texts.proofs.Bodies.{edition, body, lines-are, bad-are, good-lines}
 use Rattle.texts.specs.Fill.{Surveyed, RowsWait, RowsRead, RecordsWait, RecordsRead}
 
 -- the answer, by the seven conditions in their order
@@ -74,85 +77,95 @@ module _ (text : List ℕ) (lent : Table) where
           short-is : textOver text ≡ false
           short-is = le-ltb textLimit (length text) short
 
-          pub refuse-line : (n rows records : ℕ) → Surveyed text n rows records → (n ≡ 0 → ⊥) → Leaves 12 n
-          refuse-line n rows records s h =
-              ap (λ (k : ℕ). record { answer = refused 12 k; slices = lent }) (s .bad-is)
-              ∙ sym (by-conditions ∙ (λ i. gives (not (eq-eqb _ _ el i)) (not (eq-eqb _ _ em i)) (not (eq-eqb _ _ ev i)) (short-is i) (not (ne-eqb (badLine text) 0 (λ e. h (s .bad-is ∙ e)) i)) rows-over words-over))
+          module _ (o : Opening) (opened : openingModel o ≡ opening text) (rows records n : ℕ) (s : Surveyed (edition o) (o .first) (body text o) n rows records) where
+            bad-is : n ≡ badLine text
+            bad-is = s .bad-is ∙ bad-are text o opened
 
-          module _ (rows records : ℕ) (n : ℕ) (zero-bad : n ≡ 0) (s : Surveyed text n rows records) where
-            good : badLine text ≡ 0
-            good = sym (s .bad-is) ∙ zero-bad
+            pub refuse-line : (n ≡ 0 → ⊥) → Leaves 12 n
+            refuse-line h =
+                ap (λ (k : ℕ). record { answer = refused 12 k; slices = lent }) bad-is
+                ∙ sym (by-conditions ∙ (λ i. gives (not (eq-eqb _ _ el i)) (not (eq-eqb _ _ em i)) (not (eq-eqb _ _ ev i)) (short-is i) (not (ne-eqb (badLine text) 0 (λ e. h (bad-is ∙ e)) i)) rows-over words-over))
 
-            rows-are : length (tableRead text .widths) ≡ rows
-            unfolding tableIn
-            rows-are = length-map (rowsIn (linesIn text)) (λ r. r .vector .width) ∙ sym (s .rows-is zero-bad)
+            module _ (zero-bad : n ≡ 0) where
+              good : badLine text ≡ 0
+              good = sym bad-is ∙ zero-bad
 
-            words-are : length (tableRead text .words) ≡ recordWords * records
-            unfolding tableIn
-            words-are = sym (s .words-is zero-bad)
+              rows-in : length (rowsIn (linesIn text)) ≡ rows
+              rows-in = ap (λ (ls : List Line). length (rowsIn ls)) (lines-are text o opened) ∙ sym (s .rows-is zero-bad)
 
-            abbrev passed : Bool → Bool → ReadBack
-            passed f g = gives false false false false false f g
+              rows-are : length (tableRead text .widths) ≡ rows
+              unfolding tableIn
+              rows-are = length-map (rowsIn (linesIn text)) (λ r. r .vector .width) ∙ rows-in
 
-            so-far : readOf text lent ≡ passed rows-over words-over
-            so-far = by-conditions ∙ (λ i. gives (not (eq-eqb _ _ el i)) (not (eq-eqb _ _ em i)) (not (eq-eqb _ _ ev i)) (short-is i) (not (eq-eqb (badLine text) 0 good i)) rows-over words-over)
+              words-are : length (tableRead text .words) ≡ recordWords * records
+              unfolding tableIn
+              words-are = ap (λ (ls : List Line). length (wordsIn ls)) (lines-are text o opened) ∙ sym (s .words-is zero-bad)
 
-            pub refuse-rows : length (lent .widths) < rows → Leaves 13 0
-            refuse-rows h = sym (so-far ∙ (λ i. passed (lt-ltb (length (lent .widths)) (length (tableRead text .widths)) (omega (arith, h, rows-are)) i) words-over))
+              abbrev passed : Bool → Bool → ReadBack
+              passed f g = gives false false false false false f g
 
-            module _ (hold : rows ≤ length (lent .widths)) where
-              pub refuse-words : length (lent .words) < recordWords * records → Leaves 13 0
-              refuse-words h =
-                  sym (so-far
-                  ∙ (λ i. passed (le-ltb (length (lent .widths)) (length (tableRead text .widths)) (omega (arith, hold, rows-are)) i)
-                  (lt-ltb (length (lent .words)) (length (tableRead text .words)) (omega (arith, h, words-are)) i)))
+              so-far : readOf text lent ≡ passed rows-over words-over
+              so-far = by-conditions ∙ (λ i. gives (not (eq-eqb _ _ el i)) (not (eq-eqb _ _ em i)) (not (eq-eqb _ _ ev i)) (short-is i) (not (eq-eqb (badLine text) 0 good i)) rows-over words-over)
 
-              pub rows-wait : RowsWait text rows (lent .widths) (lent .locks) (lent .masks) (lent .values)
-              rows-wait =
-                  record {
-                    good = good;
-                    count = s .rows-is zero-bad;
-                    widths-hold = hold;
-                    locks-hold = omega (arith, hold, el);
-                    masks-hold = omega (arith, hold, em);
-                    values-hold = omega (arith, hold, ev);
-                  }
+              pub refuse-rows : length (lent .widths) < rows → Leaves 13 0
+              refuse-rows h = sym (so-far ∙ (λ i. passed (lt-ltb (length (lent .widths)) (length (tableRead text .widths)) (omega (arith, h, rows-are)) i) words-over))
 
-              module _ (words-hold : recordWords * records ≤ length (lent .words)) {at : ℕ} {ws ls ms vs : List ℕ}
-                  (a : RowsRead text at (lent .widths) ws (lent .locks) ls (lent .masks) ms (lent .values) vs) where
-                pub records-wait : RecordsWait text at records (lent .words)
-                records-wait = record { inside = a .inside; good = a .good-left; count = s .words-is zero-bad ∙ sym (ap length (a .words-left)); words-hold = words-hold }
+              module _ (hold : rows ≤ length (lent .widths)) where
+                pub refuse-words : length (lent .words) < recordWords * records → Leaves 13 0
+                refuse-words h =
+                    sym (so-far
+                    ∙ (λ i. passed (le-ltb (length (lent .widths)) (length (tableRead text .widths)) (omega (arith, hold, rows-are)) i)
+                    (lt-ltb (length (lent .words)) (length (tableRead text .words)) (omega (arith, h, words-are)) i)))
 
-                put : (old x : List ℕ) → length x ≤ length old → sets old 0 x ≡ filled x old
-                put old x h = sets-eq x old 0 (omega arith) ∙ ap (λ (k : ℕ). x ++ drop k old) (zero-add (length x))
-
-                column : (f : LineRow → ℕ) (old : List ℕ) → rows ≤ length old → sets old 0 (map f (rowsIn (linesIn text))) ≡ filled (map f (rowsIn (linesIn text))) old
-                column f old h = put old (map f (rowsIn (linesIn text))) (omega (arith, h, length-map (rowsIn (linesIn text)) f, s .rows-is zero-bad))
-
-                passes : ReadPassed text lent
-                passes =
+                pub rows-wait : RowsWait (edition o) (body text o) rows (lent .widths) (lent .locks) (lent .masks) (lent .values)
+                rows-wait =
                     record {
-                      locks-same = el;
-                      masks-same = em;
-                      values-same = ev;
-                      short = short;
-                      good = good;
-                      rows-hold = omega (arith, hold, rows-are);
-                      words-hold = omega (arith, words-hold, words-are);
+                      good = good-lines text o opened good;
+                      count = s .rows-is zero-bad;
+                      widths-hold = hold;
+                      locks-hold = omega (arith, hold, el);
+                      masks-hold = omega (arith, hold, em);
+                      values-hold = omega (arith, hold, ev);
                     }
 
-                pub accept : {words : List ℕ} → RecordsRead text at (lent .words) words
-                    → record { answer = done (record { rows = rows; records = records }); slices = record { widths = ws; locks = ls; masks = ms; values = vs; words = words } } ≡ readOf text lent
-                unfolding tableIn
-                accept {words} o =
-                    let records-are : records ≡ length (tableRead text .words) / recordWords = omega (arith, words-are) in
-                    let widths-is = a .widths-are ∙ column (λ r. r .vector .width) (lent .widths) hold in
-                    let locks-is = a .locks-are ∙ column (λ r. r .lock) (lent .locks) (omega (arith, hold, el)) in
-                    let masks-is = a .masks-are ∙ column (λ r. r .vector .mask) (lent .masks) (omega (arith, hold, em)) in
-                    let values-is = a .values-are ∙ column (λ r. r .vector .value) (lent .values) (omega (arith, hold, ev)) in
-                    let words-is = o .words-are ∙ ap (sets (lent .words) 0) (a .words-left) ∙ put (lent .words) (wordsIn (linesIn text)) (omega (arith, words-hold, s .words-is zero-bad)) in
-                    (λ i. record {
-                      answer = done (record { rows = sym rows-are i; records = records-are i });
-                      slices = record { widths = widths-is i; locks = locks-is i; masks = masks-is i; values = values-is i; words = words-is i };
-                    })
-                    ∙ sym (answer-of-read text lent passes)
+                module _ (words-hold : recordWords * records ≤ length (lent .words)) {at : ℕ} {ws ls ms vs : List ℕ}
+                    (a : RowsRead (edition o) (body text o) at (lent .widths) ws (lent .locks) ls (lent .masks) ms (lent .values) vs) where
+                  pub records-wait : RecordsWait (edition o) (body text o) at records (lent .words)
+                  records-wait = record { inside = a .inside; good = a .good-left; count = s .words-is zero-bad ∙ sym (ap length (a .words-left)); words-hold = words-hold }
+
+                  put : (old x : List ℕ) → length x ≤ length old → sets old 0 x ≡ filled x old
+                  put old x h = sets-eq x old 0 (omega arith) ∙ ap (λ (k : ℕ). x ++ drop k old) (zero-add (length x))
+
+                  column : (f : LineRow → ℕ) (old : List ℕ) → rows ≤ length old → sets old 0 (map f (rowsIn (linesIn text))) ≡ filled (map f (rowsIn (linesIn text))) old
+                  column f old h = put old (map f (rowsIn (linesIn text))) (omega (arith, h, length-map (rowsIn (linesIn text)) f, rows-in))
+
+                  in-text : (f : LineRow → ℕ) (old : List ℕ) → rows ≤ length old → sets old 0 (map f (rowsIn (linesFrom (edition o) (body text o)))) ≡ filled (map f (rowsIn (linesIn text))) old
+                  in-text f old h = ap (λ (ls : List Line). sets old 0 (map f (rowsIn ls))) (sym (lines-are text o opened)) ∙ column f old h
+
+                  passes : ReadPassed text lent
+                  passes =
+                      record {
+                        locks-same = el;
+                        masks-same = em;
+                        values-same = ev;
+                        short = short;
+                        good = good;
+                        rows-hold = omega (arith, hold, rows-are);
+                        words-hold = omega (arith, words-hold, words-are);
+                      }
+
+                  pub accept : {words : List ℕ} → RecordsRead (edition o) (body text o) at (lent .words) words
+                      → record { answer = done (record { rows = rows; records = records }); slices = record { widths = ws; locks = ls; masks = ms; values = vs; words = words } } ≡ readOf text lent
+                  unfolding tableIn
+                  accept {words} w =
+                      let records-are : records ≡ length (tableRead text .words) / recordWords = omega (arith, words-are) in
+                      let widths-is = a .widths-are ∙ in-text (λ r. r .vector .width) (lent .widths) hold in
+                      let locks-is = a .locks-are ∙ in-text (λ r. r .lock) (lent .locks) (omega (arith, hold, el)) in
+                      let masks-is = a .masks-are ∙ in-text (λ r. r .vector .mask) (lent .masks) (omega (arith, hold, em)) in
+                      let values-is = a .values-are ∙ in-text (λ r. r .vector .value) (lent .values) (omega (arith, hold, ev)) in
+                      let words-is = w .words-are ∙ ap (sets (lent .words) 0) (a .words-left ∙ ap wordsIn (sym (lines-are text o opened))) ∙ put (lent .words) (wordsIn (linesIn text)) (omega (arith, words-hold, words-are)) in
+                      (λ i. record {
+                        answer = done (record { rows = sym rows-are i; records = records-are i });
+                        slices = record { widths = widths-is i; locks = locks-is i; masks = masks-is i; values = values-is i; words = words-is i };
+                      })
+                      ∙ sym (answer-of-read text lent passes)

@@ -9,10 +9,9 @@ use lib.Dec.{eqb}
 use lib.ListN.{length}
 use Rattle.bits.proofs.Bools.{T-right}
 use Rattle.bits.proofs.Bits.{digit-lt}
-use Rattle.operations.specs.Kinds.{kinds}
 use Rattle.bits.specs.Limits.{widthLimit}
 use Rattle.grammar.specs.Lists.{allOf, same}
-use Rattle.grammar.specs.Words.{edition1, threeLetters, rowWord, opWord, lockedWord}
+use Rattle.grammar.specs.Words.{Edition, rowWord, opWord, lockedWord}
 use Rattle.grammar.specs.Print.{LineRow, Line, rowLine, recordLine, outside}
 use Rattle.grammar.specs.Line.{isNumber, numberOf, isVector, vectorOf, isLock, lockOf, isName, numberNamed, rowOf, recordIn, lineOf}
 use Rattle.grammar.proofs.Tests.{by-cond}
@@ -23,26 +22,26 @@ Small (rowLine r) = (r .lock ≤ 1) × (r .vector .width ≤ widthLimit)
 Small (recordLine ws) = Unit {0}
 Small outside = Unit {0}
 
-row-small : (fs : List (List ℕ)) → Small (rowOf edition1 fs)
-row-small [] = tt
-row-small (lock ∷ []) = tt
-row-small (lock ∷ vector ∷ []) =
-    by-cond Small (isLock lock && isVector threeLetters vector) (rowLine (record { lock = lockOf lock; vector = vectorOf threeLetters vector })) outside
-    (λ t. (omega (arith, digit-lt (same lock lockedWord)), vector-tests vector (T-right (isLock lock) (isVector threeLetters vector) t) .few))
+row-small : (ed : Edition) (fs : List (List ℕ)) → Small (rowOf ed fs)
+row-small ed [] = tt
+row-small ed (lock ∷ []) = tt
+row-small ed (lock ∷ vector ∷ []) =
+    by-cond Small (isLock lock && isVector (ed .letters) vector) (rowLine (record { lock = lockOf lock; vector = vectorOf (ed .letters) vector })) outside
+    (λ t. (omega (arith, digit-lt (same lock lockedWord)), vector-tests (ed .letters) vector (T-right (isLock lock) (isVector (ed .letters) vector) t) .few))
     (λ t. tt)
-row-small (lock ∷ vector ∷ f ∷ fs) = tt
+row-small ed (lock ∷ vector ∷ f ∷ fs) = tt
 
-record-small : (fs : List (List ℕ)) → Small (recordIn edition1 fs)
-record-small [] = tt
-record-small (name ∷ fs) =
-    by-cond Small (isName name kinds && eqb (length fs) 4 && allOf isNumber fs) (recordLine (numberNamed name kinds ∷ map numberOf fs)) outside (λ t. tt) (λ t. tt)
+record-small : (ed : Edition) (fs : List (List ℕ)) → Small (recordIn ed fs)
+record-small ed [] = tt
+record-small ed (name ∷ fs) =
+    by-cond Small (isName name (ed .operations) && eqb (length fs) (ed .numbers) && allOf isNumber fs) (recordLine (numberNamed name (ed .operations) ∷ map numberOf fs)) outside (λ t. tt) (λ t. tt)
 
-line-small : (fs : List (List ℕ)) → Small (lineOf edition1 fs)
+line-small : (ed : Edition) (fs : List (List ℕ)) → Small (lineOf ed fs)
 unfolding lineOf
-line-small [] = tt
-line-small (f ∷ fs) =
-    by-cond Small (same f rowWord) (rowOf edition1 fs) (cond (same f opWord) (recordIn edition1 fs) outside) (λ t. row-small fs)
-    (λ t. by-cond Small (same f opWord) (recordIn edition1 fs) outside (λ u. record-small fs) (λ u. tt))
+line-small ed [] = tt
+line-small ed (f ∷ fs) =
+    by-cond Small (same f rowWord) (rowOf ed fs) (cond (same f opWord) (recordIn ed fs) outside) (λ t. row-small ed fs)
+    (λ t. by-cond Small (same f opWord) (recordIn ed fs) outside (λ u. record-small ed fs) (λ u. tt))
 
-pub bytes-fit : (fs : List (List ℕ)) (l : Line) → l ≡ lineOf edition1 fs → (r : LineRow) → l ≡ rowLine r → (r .lock ≤ 1) × (r .vector .width ≤ widthLimit)
-bytes-fit fs l e r o = subst Small (sym e ∙ o) (line-small fs)
+pub bytes-fit : (ed : Edition) (fs : List (List ℕ)) (l : Line) → l ≡ lineOf ed fs → (r : LineRow) → l ≡ rowLine r → (r .lock ≤ 1) × (r .vector .width ≤ widthLimit)
+bytes-fit ed fs l e r o = subst Small (sym e ∙ o) (line-small ed fs)

@@ -22,7 +22,7 @@ use Rattle.checks.specs.Checks.{sizeChecks, locksDiffer, masksDiffer, valuesDif
 use Rattle.grammar.specs.Limits.{textLimit, rowBytes, recordBytes}
 use Rattle.grammar.specs.Lists.{filled}
 use Rattle.grammar.specs.Print.{textOf}
-use Rattle.grammar.specs.Lines.{linesIn, firstBad, tableRead}
+use Rattle.grammar.specs.Lines.{opening, linesIn, firstBad, tableRead}
 
 -- "44 × rows + 24 × records, a number of bytes the text doesn't exceed"
 abbrev pub sizeBound : Table → ℕ
@@ -66,7 +66,7 @@ lengthChecks text = placed 0 (fault (textOver text) 11 ∷ [])
 
 -- 12: the first bad line, from 1, is its place
 abbrev pub badLine : List ℕ → ℕ
-badLine text = firstBad false 1 (linesIn text)
+badLine text = firstBad false (opening text .first) (linesIn text)
 
 abbrev pub lineChecks : List ℕ → List Check
 lineChecks text = placed (badLine text) (fault (not (eqb (badLine text) 0)) 12 ∷ [])

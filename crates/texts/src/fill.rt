@@ -1,37 +1,46 @@
-// Reading a text in two passes: the first judges it whole, the second fills the lent slices (01, "Calls": read).
+// Reading the lines after the opening of a text in two passes: the first judges them all, the second fills the lent slices (01, "Calls": read).
+ghost use Prim.Native.Nat.{_≤_};
+ghost use lib.ListN.{length};
+ghost use Rattle.operations.specs.Record.{wordsOf};
+ghost use Rattle.grammar.specs.Limits.{textLimit};
+ghost use Rattle.lines.specs.Model.{editionModel};
+ghost use Rattle.lines.specs.Put.{Holds, Put};
 ghost use Rattle.texts.specs.Fill.{Surveyed, RowsWait, RowsRead, RecordsWait, RecordsRead};
 use lines::cut::LF;
 use lines::cut::end_of;
+use lines::edition::Edition;
 use lines::line::Found;
 use lines::line::line;
 use operations::RECORD_WORDS;
+use operations::Record;
 
-// The first bad line, from 1, or 0 and the counts of row lines and record lines.
+// The number of the first bad line, or 0 and the counts of row lines and record lines.
 pub struct Tally {
     pub bad: usize,
     pub rows: usize,
     pub records: usize,
 }
 
-// The first pass.
-pub(crate) fn survey(text: &[u8]) -> Tally
-    ensures { λ r. ⌜ Surveyed (now (text .entry)) (r .bad) (r .rows) (r .records) ⌝ }
+// The first pass, over lines of which the first has the number `first`.
+pub(crate) fn survey(e: Edition, text: &[u8], first: usize) -> Tally
+    requires { ⌜ (1 ≤ first) × (first ≤ textLimit) × (length (now text) ≤ textLimit) ⌝ }
+    ensures { λ r. ⌜ Surveyed (editionModel e) first (now (text .entry)) (r .bad) (r .rows) (r .records) ⌝ }
 {
     let len = text.len();
     let mut at: usize = 0;
-    let mut n: usize = 1;
+    let mut n = first;
     let mut rows: usize = 0;
     let mut records: usize = 0;
     while at < len {
-        let e = end_of(text, at, LF);
-        if e == len {
+        let end = end_of(text, at, LF);
+        if end == len {
             return Tally {
                 bad: n,
                 rows: 0,
                 records: 0,
             };
         }
-        let l = line(&text[at..e]);
+        let l = line(e, &text[at..end]);
         match l {
             Found::Row(_, _, _, _) => {
                 if 0 < records {
@@ -43,7 +52,7 @@ pub(crate) fn survey(text: &[u8]) -> Tally
                 }
                 rows += 1;
             }
-            Found::Record(_, _, _, _, _) => {
+            Found::Record(_) => {
                 records += 1;
             }
             Found::Outside => {
@@ -54,7 +63,7 @@ pub(crate) fn survey(text: &[u8]) -> Tally
                 };
             }
         }
-        at = e + 1;
+        at = end + 1;
         n += 1;
     }
     Tally {
@@ -66,6 +75,7 @@ pub(crate) fn survey(text: &[u8]) -> Tally
 
 // Puts the rows of a text, of which there are `n`, into the slices, and answers where the first record line begins.
 pub(crate) fn fill_rows(
+    e: Edition,
     text: &[u8],
     n: usize,
     width: &mut [u8],
@@ -73,14 +83,16 @@ pub(crate) fn fill_rows(
     mask: &mut [u32],
     value: &mut [u32],
 ) -> usize
-    requires { ⌜ RowsWait (now text) n (now width) (now lock) (now mask) (now value) ⌝ }
-    ensures { λ r. ⌜ RowsRead (now (text .entry)) r (now (width .entry)) (now (width .exit)) (now (lock .entry)) (now (lock .exit)) (now (mask .entry)) (now (mask .exit)) (now (value .entry)) (now (value .exit)) ⌝ }
+    requires { ⌜ RowsWait (editionModel e) (now text) n (now width) (now lock) (now mask) (now value) ⌝ }
+    ensures { λ r.
+        let rows = RowsRead (editionModel e) (now (text .entry)) r (now (width .entry)) (now (width .exit)) (now (lock .entry)) (now (lock .exit)) in
+        ⌜ rows (now (mask .entry)) (now (mask .exit)) (now (value .entry)) (now (value .exit)) ⌝ }
 {
     let mut at: usize = 0;
     let mut k: usize = 0;
     while k < n {
-        let e = end_of(text, at, LF);
-        let f = line(&text[at..e]);
+        let end = end_of(text, at, LF);
+        let f = line(e, &text[at..end]);
         match f {
             Found::Row(l, w, m, v) => {
                 width[k] = w as u8;
@@ -88,47 +100,55 @@ pub(crate) fn fill_rows(
                 mask[k] = m;
                 value[k] = v;
             }
-            Found::Record(_, _, _, _, _) => {
+            Found::Record(_) => {
                 return at;
             }
             Found::Outside => {
                 return at;
             }
         }
-        at = e + 1;
+        at = end + 1;
         k += 1;
     }
     at
 }
 
+// Puts the words of a record into the slice from `at` on.
+fn put_words(words: &mut [u32], at: usize, r: Record) -> usize
+    requires { ⌜ Holds (now words) at (wordsOf r) ⌝ }
+    ensures { λ end. ⌜ Put (now (words .entry)) (now (words .exit)) at end (wordsOf r) ⌝ }
+{
+    words[at] = r.kind;
+    words[at + 1] = r.t;
+    words[at + 2] = r.a;
+    words[at + 3] = r.b;
+    words[at + 4] = r.p;
+    at + RECORD_WORDS
+}
+
 // Puts the words of the record lines from `from` on, `n` lines, into the slice.
-pub(crate) fn fill_records(text: &[u8], from: usize, n: usize, words: &mut [u32])
-    requires { ⌜ RecordsWait (now text) from n (now words) ⌝ }
-    ensures { λ _. ⌜ RecordsRead (now (text .entry)) from (now (words .entry)) (now (words .exit)) ⌝ }
+pub(crate) fn fill_records(e: Edition, text: &[u8], from: usize, n: usize, words: &mut [u32])
+    requires { ⌜ RecordsWait (editionModel e) (now text) from n (now words) ⌝ }
+    ensures { λ _. ⌜ RecordsRead (editionModel e) (now (text .entry)) from (now (words .entry)) (now (words .exit)) ⌝ }
 {
     let mut at = from;
     let mut i: usize = 0;
     let mut k: usize = 0;
     while k < n {
-        let e = end_of(text, at, LF);
-        let f = line(&text[at..e]);
+        let end = end_of(text, at, LF);
+        let f = line(e, &text[at..end]);
         match f {
             Found::Row(_, _, _, _) => {
                 return;
             }
-            Found::Record(kind, t, a, b, p) => {
-                words[i] = kind;
-                words[i + 1] = t;
-                words[i + 2] = a;
-                words[i + 3] = b;
-                words[i + 4] = p;
+            Found::Record(r) => {
+                i = put_words(words, i, r);
             }
             Found::Outside => {
                 return;
             }
         }
-        at = e + 1;
-        i += RECORD_WORDS;
+        at = end + 1;
         k += 1;
     }
 }

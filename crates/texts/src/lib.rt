@@ -27,6 +27,7 @@ use limits::TEXT_LIMIT;
 use lines::cut::LF;
 use lines::cut::TAB;
 use lines::cut::part;
+use lines::edition::opening_of;
 use operations::RECORD_WORDS;
 use print::put_records;
 use print::put_rows;
@@ -134,7 +135,12 @@ pub fn read(
             place: 0,
         });
     }
-    let s = survey(text);
+    let o = opening_of(text);
+    let e = o.edition;
+    let from = o.at;
+    let first = o.first;
+    let body = &text[from..];
+    let s = survey(e, body, first);
     let bad = s.bad;
     let rows = s.rows;
     let records = s.records;
@@ -156,8 +162,8 @@ pub fn read(
             place: 0,
         });
     }
-    let at = fill_rows(text, rows, width, lock, mask, value);
-    fill_records(text, at, records, words);
+    let at = fill_rows(e, body, rows, width, lock, mask, value);
+    fill_records(e, body, at, records, words);
     ReadAnswer::Read(rows, records)
 }
 

@@ -1,24 +1,28 @@
 // Writing the lines of a table into a lent buffer (01, "Text": all row lines, then record lines).
 ghost use mathlib.Core.Path.{_≡_};
 ghost use mathlib.Core.List.{[]};
+ghost use Prim.Native.Nat.{_/_, _<_};
+ghost use lib.ListN.{length};
+ghost use Rattle.operations.specs.Limits.{recordWords};
+ghost use Rattle.operations.specs.Record.{wordsOf};
+ghost use Rattle.checks.specs.Table.{recordOf};
 ghost use Rattle.checks.specs.Model.{lent};
 ghost use Rattle.grammar.specs.Print.{linesText, rowLines, recordLines};
 ghost use Rattle.lines.specs.Put.{Holds, Put};
 ghost use Rattle.texts.specs.Print.{RowsFit, RecordsFit};
+use bits::wide;
 use lines::put::put_record;
 use lines::put::put_row;
 use operations::RECORD_WORDS;
-
-fn wide(b: u8) -> u32
-    ensures { λ r. ⌜ r ≡ b ⌝ }
-{
-    b as u32
-}
+use operations::Record;
 
 // Writes the row lines of a table.
 pub fn put_rows(out: &mut [u8], width: &[u8], lock: &[u8], mask: &[u32], value: &[u32]) -> usize
-    requires { ⌜ RowsFit (now width) (now lock) (now mask) (now value) × Holds (now out) 0 (linesText (rowLines (lent (now width) (now lock) (now mask) (now value) []))) ⌝ }
-    ensures { λ r. ⌜ Put (now (out .entry)) (now (out .exit)) 0 r (linesText (rowLines (lent (now (width .entry)) (now (lock .entry)) (now (mask .entry)) (now (value .entry)) []))) ⌝ }
+    requires { let table = lent (now width) (now lock) (now mask) (now value) [] in
+        ⌜ RowsFit (now width) (now lock) (now mask) (now value) × Holds (now out) 0 (linesText (rowLines table)) ⌝ }
+    ensures { λ r.
+        let table = lent (now (width .entry)) (now (lock .entry)) (now (mask .entry)) (now (value .entry)) [] in
+        ⌜ Put (now (out .entry)) (now (out .exit)) 0 r (linesText (rowLines table)) ⌝ }
 {
     let n = width.len();
     let mut at: usize = 0;
@@ -30,10 +34,19 @@ pub fn put_rows(out: &mut [u8], width: &[u8], lock: &[u8], mask: &[u32], value: 
     at
 }
 
-fn index(x: u32) -> usize
-    ensures { λ r. ⌜ r ≡ x ⌝ }
+// Record i of the words.
+fn record_at(words: &[u32], i: usize) -> Record
+    requires { ⌜ i < length (now words) / recordWords ⌝ }
+    ensures { λ r. ⌜ wordsOf r ≡ recordOf (lent [] [] [] [] (now (words .entry))) i ⌝ }
 {
-    x as usize
+    let k = RECORD_WORDS * i;
+    Record {
+        kind: words[k],
+        t: words[k + 1],
+        a: words[k + 2],
+        b: words[k + 3],
+        p: words[k + 4],
+    }
 }
 
 // Writes the record lines of a table from `from` on.
@@ -45,16 +58,7 @@ pub fn put_records(out: &mut [u8], from: usize, words: &[u32]) -> usize
     let mut at = from;
     let mut i: usize = 0;
     while i < n {
-        let j = RECORD_WORDS * i;
-        at = put_record(
-            out,
-            at,
-            index(words[j]),
-            index(words[j + 1]),
-            index(words[j + 2]),
-            index(words[j + 3]),
-            index(words[j + 4]),
-        );
+        at = put_record(out, at, record_at(words, i));
         i += 1;
     }
     at

@@ -1,5 +1,9 @@
 -- `lines::line::record_line`, by its five fields. Assumes nothing.
+use mathlib.Core.Path.{sym, ap, _∙_}
 use native.Mathlib.Omega.{arith}
+use Rattle.grammar.specs.Words.{Edition}
+use Rattle.lines.specs.Model.{editionModel, numberModel}
+use Rattle.lines.proofs.Editions.{only}
 use Rattle.lines.proofs.ReadRecords.{record-no-name, record-bad, record-good}
 use borrow.Author.Needs.{needs}
 use Rattle.lines.proofs.line.record_line.Statement.{statement}
@@ -7,61 +11,76 @@ use Rattle.lines.proofs.line.record_line.Tie as tie
 
 returns : tie.Need-returns
 returns c =
-    let a = c .before .before .before .before .before .before .before .before .args in
-    let r = c .before .before .kind-of in
-    record-no-name (a .name .now) (a .t .now) (a .a .now) (a .b .now) (a .p .now) (r .result .good) (r .result .number) (r .ensures) (c .if1 .taken)
+    let p2 = c .before .before in
+    let a = p2 .before .before .before .before .before .before .args in
+    record-no-name (editionModel (a .e)) (ap (λ (x : Edition). x .numbers) (only (a .e))) (a .name .now) (a .t .now) (a .a .now) (a .b .now) (a .p .now) (sym (ap numberModel (c .enum-told .given .1)) ∙ p2 .kind-of .ensures)
 
 returns-2 : tie.Need-returns-2
 returns-2 c =
-    let a = c .before .before .before .before .before .before .before .before .before .before .before .args in
-    let r = c .before .before .number in
-    record-bad (a .name .now) (a .t .now) (a .a .now) (a .b .now) (a .p .now) 0 (omega arith) (r .result .good) (r .result .number) (r .ensures) (c .if2 .taken)
+    let p2 = c .before .before in
+    let a = p2 .before .before .before .before .before .before .before .before .before .before .args in
+    record-bad (editionModel (a .e)) (ap (λ (x : Edition). x .numbers) (only (a .e))) (a .name .now) (a .t .now) (a .a .now) (a .b .now) (a .p .now) 0 (omega arith) (sym (ap numberModel (c .enum-told2 .given .1)) ∙ p2 .number .ensures)
 
 returns-3 : tie.Need-returns-3
 returns-3 c =
-    let a = c .before .before .before .before .before .before .before .before .before .before .before .before .before .before .args in
-    let r = c .before .before .number2 in
-    record-bad (a .name .now) (a .t .now) (a .a .now) (a .b .now) (a .p .now) 1 (omega arith) (r .result .good) (r .result .number) (r .ensures) (c .if3 .taken)
+    let p2 = c .before .before in
+    let a = p2 .before .before .before .before .before .before .before .before .before .before .before .before .before .before .args in
+    record-bad (editionModel (a .e)) (ap (λ (x : Edition). x .numbers) (only (a .e))) (a .name .now) (a .t .now) (a .a .now) (a .b .now) (a .p .now) 1 (omega arith) (sym (ap numberModel (c .enum-told3 .given .1)) ∙ p2 .number2 .ensures)
 
 returns-4 : tie.Need-returns-4
 returns-4 c =
-    let a = c .before .before .before .before .before .before .before .before .before .before .before .before .before .before .before .before .before .args in
-    let r = c .before .before .number3 in
-    record-bad (a .name .now) (a .t .now) (a .a .now) (a .b .now) (a .p .now) 2 (omega arith) (r .result .good) (r .result .number) (r .ensures) (c .if4 .taken)
+    let p2 = c .before .before in
+    let a = p2 .before .before .before .before .before .before .before .before .before .before .before .before .before .before .before .before .before .before .args in
+    record-bad (editionModel (a .e)) (ap (λ (x : Edition). x .numbers) (only (a .e))) (a .name .now) (a .t .now) (a .a .now) (a .b .now) (a .p .now) 2 (omega arith) (sym (ap numberModel (c .enum-told4 .given .1)) ∙ p2 .number3 .ensures)
 
 returns-5 : tie.Need-returns-5
 returns-5 c =
-    let a = c .before .before .before .before .before .before .before .before .before .before .before .before .before .before .before .before .before .before .before .before .args in
-    let r = c .before .before .number4 in
-    record-bad (a .name .now) (a .t .now) (a .a .now) (a .b .now) (a .p .now) 3 (omega arith) (r .result .good) (r .result .number) (r .ensures) (c .if5 .taken)
+    let p2 = c .before .before in
+    let a = p2 .before .before .before .before .before .before .before .before .before .before .before .before .before .before .before .before .before .before .before .before .before .before .args in
+    record-bad (editionModel (a .e)) (ap (λ (x : Edition). x .numbers) (only (a .e))) (a .name .now) (a .t .now) (a .a .now) (a .b .now) (a .p .now) 3 (omega arith) (sym (ap numberModel (c .enum-told5 .given .1)) ∙ p2 .number4 .ensures)
 
 returns-6 : tie.Need-returns-6
 returns-6 c =
-    let a = c .before .before .before .before .before .before .before .before .before .before .before .before .before .before .before .before .before .before .before .before .args in
-    let r1 = c .before .before .before .before .before .before .before .before .before .before .before .before .before .before .kind-of in
-    let r2 = c .before .before .before .before .before .before .before .before .before .before .before .number in
-    let r3 = c .before .before .before .before .before .before .before .before .number2 in
-    let r4 = c .before .before .before .before .before .number3 in
-    let r5 = c .before .before .number4 in
-    record-good (a .name .now) (a .t .now) (a .a .now) (a .b .now) (a .p .now)
-    (r1 .result .good) (r1 .result .number) (r1 .ensures) (c .before .before .before .before .before .before .before .before .before .before .before .before .if1 .left)
-    (r2 .result .good) (r2 .result .number) (r2 .ensures) (c .before .before .before .before .before .before .before .before .before .if2 .left)
-    (r3 .result .good) (r3 .result .number) (r3 .ensures) (c .before .before .before .before .before .before .if3 .left)
-    (r4 .result .good) (r4 .result .number) (r4 .ensures) (c .before .before .before .if4 .left)
-    (r5 .result .good) (r5 .result .number) (r5 .ensures) (c .if5 .left)
+    let p1 = c .before in
+    let p3 = p1 .before .before in
+    let p5 = p3 .before .before in
+    let p7 = p5 .before .before in
+    let p9 = p7 .before .before in
+    let p11 = p9 .before .before in
+    let p13 = p11 .before .before in
+    let p15 = p13 .before .before in
+    let p17 = p15 .before .before in
+    let p19 = p17 .before .before in
+    let a = p19 .before .before .before .before .before .before .args in
+    record-good (editionModel (a .e)) (ap (λ (x : Edition). x .numbers) (only (a .e))) (a .name .now) (a .t .now) (a .a .now) (a .b .now) (a .p .now) _ _ _ _ _
+    (sym (ap numberModel (p17 .n .given .1)) ∙ p19 .kind-of .ensures)
+    (sym (ap numberModel (p13 .n2 .given .1)) ∙ p15 .number .ensures)
+    (sym (ap numberModel (p9 .n3 .given .1)) ∙ p11 .number2 .ensures)
+    (sym (ap numberModel (p5 .n4 .given .1)) ∙ p7 .number3 .ensures)
+    (sym (ap numberModel (p1 .n5 .given .1)) ∙ p3 .number4 .ensures)
 
 pub record-line-spec : {M : Type 1} → statement M
 record-line-spec =
     tie.close
     (tie.spec
     (λ c κs. search needs)
+    (λ c. search needs)
+    (λ c. search needs)
     returns
     (λ c κs. search needs)
+    (λ c. search needs)
+    (λ c. search needs)
     returns-2
     (λ c κs. search needs)
+    (λ c. search needs)
+    (λ c. search needs)
     returns-3
     (λ c κs. search needs)
+    (λ c. search needs)
+    (λ c. search needs)
     returns-4
     (λ c κs. search needs)
+    (λ c. search needs)
+    (λ c. search needs)
     returns-5
     returns-6)

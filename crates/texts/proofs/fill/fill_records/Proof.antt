@@ -1,22 +1,21 @@
 -- `texts::fill::fill_records`: the words of the records passed are in the slice, and the rest is still to come. Assumes nothing.
-use mathlib.Core.Path.{ap}
-use Prim.Native.Nat.{_+_, _-_, _≤_}
+use mathlib.Core.Path.{refl, ap}
+use Prim.Native.Nat.{_-_}
 use native.Mathlib.Omega.{arith}
 use borrow.Author.Needs.{needs}
-use lib.ListN.{length, length-set}
-use Rattle.lines.specs.Model.{lineModel}
+use Rattle.lines.specs.Model.{lineModel, editionModel}
 use Rattle.texts.proofs.FillRecords.{Filling, begin, same-length as kept, ends-in, no-row, no-outside, more, done, room}
 use Rattle.texts.proofs.fill.fill_records.Statement.{statement}
 use Rattle.texts.proofs.fill.fill_records.Tie as tie
 
 abbrev Inv-loop : tie.InvT-loop
-Inv-loop text from n words₀ at₀ i₀ k₀ words at i k = Filling text from at i k n words₀ words
+Inv-loop e text from n words₀ at₀ i₀ k₀ words at i k = Filling (editionModel e) text from at i k n words₀ words
 
 abbrev μ-loop : tie.MeasureT-loop
-μ-loop text from n words₀ at₀ i₀ k₀ words at i k = n - k
+μ-loop e text from n words₀ at₀ i₀ k₀ words at i k = n - k
 
 loop-holds : tie.Need-loop-holds Inv-loop μ-loop
-loop-holds c = let s = c .before .before in begin (s .args .text .now) (s .args .from) (s .args .n) (s .args .words .now) (s .pre)
+loop-holds c = let s = c .before .before in begin (editionModel (s .args .e)) (s .args .text .now) (s .args .from) (s .args .n) (s .args .words .now) (s .pre)
 
 end-of-requires : tie.Need-end-of-requires Inv-loop μ-loop
 end-of-requires c κs = c .before .loop .inv .inside
@@ -35,40 +34,12 @@ returns c =
     let p6 = p5 .before in
     absurd (no-row (p6 .loop .inv) (p4 .end-of .result) (p4 .end-of .ensures .0) (p5 .loop-test .taken) (lineModel (p2 .line .result)) (p2 .line .ensures) _ (ap lineModel (c .enum-told .given .1)))
 
--- the record's five words are in the slice
-space : (c : tie.After-known-told Inv-loop μ-loop) → let l = c .before .before .before .before .before .before .before .loop in l .i + 5 ≤ length (l .words)
-space c =
-    let p6 = c .before .before .before .before .before .before in
-    let p7 = p6 .before in
-    let p10 = p7 .before .before .before in
-    room (p7 .loop .inv) (p6 .loop-test .taken) (p10 .pre .words-hold)
-
-slice-write-words : tie.Need-slice-write-words Inv-loop μ-loop
-slice-write-words c = omega (arith, space c)
-
-add-words : tie.Need-add-words Inv-loop μ-loop
-add-words c = omega (arith, space c)
-
-slice-write-words-2 : tie.Need-slice-write-words-2 Inv-loop μ-loop
-slice-write-words-2 c = simp length-set (omega (arith, space c))
-
-add-words-2 : tie.Need-add-words-2 Inv-loop μ-loop
-add-words-2 c = omega (arith, space c)
-
-slice-write-words-3 : tie.Need-slice-write-words-3 Inv-loop μ-loop
-slice-write-words-3 c = simp length-set (omega (arith, space c))
-
-add-words-3 : tie.Need-add-words-3 Inv-loop μ-loop
-add-words-3 c = omega (arith, space c)
-
-slice-write-words-4 : tie.Need-slice-write-words-4 Inv-loop μ-loop
-slice-write-words-4 c = simp length-set (omega (arith, space c))
-
-add-words-4 : tie.Need-add-words-4 Inv-loop μ-loop
-add-words-4 c = omega (arith, space c)
-
-slice-write-words-5 : tie.Need-slice-write-words-5 Inv-loop μ-loop
-slice-write-words-5 c = simp length-set (omega (arith, space c))
+put-words-requires : tie.Need-put-words-requires Inv-loop μ-loop
+put-words-requires c κs =
+    let p7 = c .before .before .before .before .before .before .before in
+    let p8 = p7 .before in
+    let p11 = p8 .before .before .before in
+    room (p8 .loop .inv) (p7 .loop-test .taken) (p11 .pre .words-hold)
 
 same-length-2 : tie.Need-same-length-2 Inv-loop μ-loop
 same-length-2 c = kept (c .before .before .before .before .before .before .loop .inv)
@@ -83,21 +54,20 @@ returns-2 c =
 
 add-at : tie.Need-add-at Inv-loop μ-loop
 add-at c =
-    let p5 = c .before .before .before .before .before in
-    let p6 = p5 .before in
-    let p7 = p6 .before in
-    omega (arith, ends-in (p7 .loop .inv) (p5 .end-of .result) (p5 .end-of .ensures .0) (p6 .loop-test .taken))
-
-add-i : tie.Need-add-i Inv-loop μ-loop
-add-i c = omega (arith, space c)
+    let p9 = c .before .before .before .before .before .before .before .before .before in
+    let p10 = p9 .before in
+    let p11 = p10 .before in
+    omega (arith, ends-in (p11 .loop .inv) (p9 .end-of .result) (p9 .end-of .ensures .0) (p10 .loop-test .taken))
 
 loop-again : tie.Need-loop-again Inv-loop μ-loop
 loop-again c =
-    let p3 = c .before .before .before in
-    let p5 = p3 .before .before in
-    let p6 = p5 .before in
-    let p7 = p6 .before in
-    more (p7 .loop .inv) (p5 .end-of .result) (p5 .end-of .ensures .0) (p6 .loop-test .taken) (lineModel (p3 .line .result)) (p3 .line .ensures) _ _ _ _ _ (ap lineModel (c .before .f .given .1))
+    let p2 = c .before .before in
+    let p5 = p2 .before .before .before in
+    let p7 = p5 .before .before in
+    let p9 = p7 .before .before in
+    let p10 = p9 .before in
+    let p11 = p10 .before in
+    more (p11 .loop .inv) (p9 .end-of .result) (p9 .end-of .ensures .0) (p10 .loop-test .taken) (lineModel (p7 .line .result)) (p7 .line .ensures) _ refl (ap lineModel (p5 .f .given .1)) (p2 .put-words .ensures)
 
 same-length-3 : tie.Need-same-length-3 Inv-loop μ-loop
 same-length-3 c = kept (c .before .loop .inv)
@@ -121,25 +91,11 @@ fill-records-spec =
     same-length
     returns
     (λ c. search needs)
-    (λ c. search needs)
-    slice-write-words
-    add-words
-    (λ c. search needs)
-    slice-write-words-2
-    add-words-2
-    (λ c. search needs)
-    slice-write-words-3
-    add-words-3
-    (λ c. search needs)
-    slice-write-words-4
-    add-words-4
-    (λ c. search needs)
-    slice-write-words-5
+    put-words-requires
     (λ c. search needs)
     same-length-2
     returns-2
     add-at
-    add-i
     (λ c. omega arith)
     (λ c. omega arith)
     loop-again

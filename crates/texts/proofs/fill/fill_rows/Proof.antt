@@ -3,21 +3,21 @@ use mathlib.Core.Path.{ap}
 use Prim.Native.Nat.{_≤_, _-_}
 use native.Mathlib.Omega.{arith}
 use borrow.Author.Needs.{needs}
-use Rattle.lines.specs.Model.{lineModel}
+use Rattle.lines.specs.Model.{lineModel, editionModel}
 use Rattle.texts.proofs.FillRows.{Filling, begin, lengths, ends-in, no-record, no-outside, more, done}
 use Rattle.texts.proofs.RowBytes.{bytes-fit}
 use Rattle.texts.proofs.fill.fill_rows.Statement.{statement}
 use Rattle.texts.proofs.fill.fill_rows.Tie as tie
 
 abbrev Inv-loop : tie.InvT-loop
-Inv-loop text n width₀ lock₀ mask₀ value₀ at₀ k₀ width lock mask value at k = Filling text at k width₀ width lock₀ lock mask₀ mask value₀ value × (k ≤ n)
+Inv-loop e text n width₀ lock₀ mask₀ value₀ at₀ k₀ width lock mask value at k = Filling (editionModel e) text at k width₀ width lock₀ lock mask₀ mask value₀ value × (k ≤ n)
 
 abbrev μ-loop : tie.MeasureT-loop
-μ-loop text n width₀ lock₀ mask₀ value₀ at₀ k₀ width lock mask value at k = n - k
+μ-loop e text n width₀ lock₀ mask₀ value₀ at₀ k₀ width lock mask value at k = n - k
 
 loop-holds : tie.Need-loop-holds Inv-loop μ-loop
 loop-holds c =
-    let s = c .before .before .before .before .before in (begin (s .args .text .now) (s .args .n) (s .args .width .now) (s .args .lock .now) (s .args .mask .now) (s .args .value .now) (s .pre), omega arith)
+    let s = c .before .before .before .before .before in (begin (editionModel (s .args .e)) (s .args .text .now) (s .args .n) (s .args .width .now) (s .args .lock .now) (s .args .mask .now) (s .args .value .now) (s .pre), omega arith)
 
 end-of-requires : tie.Need-end-of-requires Inv-loop μ-loop
 end-of-requires c κs = c .before .loop .inv .0 .inside
@@ -28,7 +28,7 @@ part-line-end c = omega (arith, c .end-of .ensures .1)
 cast-width : tie.Need-cast-width Inv-loop μ-loop
 cast-width c =
     let p3 = c .before .before .before in
-    omega (arith, bytes-fit _ (lineModel (p3 .line .result)) (p3 .line .ensures) _ (ap lineModel (c .before .f .given .1)))
+    omega (arith, bytes-fit _ _ (lineModel (p3 .line .result)) (p3 .line .ensures) _ (ap lineModel (c .before .f .given .1)))
 
 slice-write-width : tie.Need-slice-write-width Inv-loop μ-loop
 slice-write-width c =
@@ -40,7 +40,7 @@ slice-write-width c =
 cast-lock : tie.Need-cast-lock Inv-loop μ-loop
 cast-lock c =
     let p3 = c .before .before .before in
-    omega (arith, bytes-fit _ (lineModel (p3 .line .result)) (p3 .line .ensures) _ (ap lineModel (c .before .f .given .1)))
+    omega (arith, bytes-fit _ _ (lineModel (p3 .line .result)) (p3 .line .ensures) _ (ap lineModel (c .before .f .given .1)))
 
 slice-write-lock : tie.Need-slice-write-lock Inv-loop μ-loop
 slice-write-lock c =

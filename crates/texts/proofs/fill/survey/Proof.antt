@@ -5,19 +5,19 @@ use Prim.Native.Nat.{_-_}
 use native.Mathlib.Omega.{arith}
 use borrow.Author.Needs.{needs}
 use lib.ListN.{length}
-use Rattle.lines.specs.Model.{lineModel}
+use Rattle.lines.specs.Model.{lineModel, editionModel}
 use Rattle.texts.proofs.Surveys.{Surveying, begin, no-end, outside-line, late-row, more-row, more-record, ended, with-counts}
 use Rattle.texts.proofs.fill.survey.Statement.{statement}
 use Rattle.texts.proofs.fill.survey.Tie as tie
 
 abbrev Inv-loop : tie.InvT-loop
-Inv-loop text len at₀ n₀ rows₀ records₀ at n rows records = (len ≡ length text) × Surveying text at n rows records
+Inv-loop e text first len at₀ n₀ rows₀ records₀ at n rows records = (len ≡ length text) × Surveying (editionModel e) first text at n rows records
 
 abbrev μ-loop : tie.MeasureT-loop
-μ-loop text len at₀ n₀ rows₀ records₀ at n rows records = len - at
+μ-loop e text first len at₀ n₀ rows₀ records₀ at n rows records = len - at
 
 loop-holds : tie.Need-loop-holds Inv-loop μ-loop
-loop-holds c = (refl, begin (c .before .args .text .now))
+loop-holds c = let s = c .before in (refl, begin (editionModel (s .args .e)) (s .args .first) (s .args .text .now) (s .pre .0))
 
 end-of-requires : tie.Need-end-of-requires Inv-loop μ-loop
 end-of-requires c κs = c .before .loop .inv .1 .inside

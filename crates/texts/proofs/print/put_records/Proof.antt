@@ -1,9 +1,10 @@
 -- `texts::print::put_records`: the record lines still to come, put at the place reached, make up the whole. Assumes nothing.
 use mathlib.Core.Path.{_≡_, refl}
 use mathlib.Core.List.{[]}
-use Prim.Native.Nat.{_≤_, _+_, _-_, _*_, _/_}
+use Prim.Native.Nat.{_≤_, _+_, _-_, _/_}
 use native.Mathlib.Omega.{arith}
 use lib.ListN.{length}
+use Rattle.operations.specs.Limits.{recordWords}
 use Rattle.checks.specs.Model.{lent}
 use Rattle.grammar.specs.Print.{linesText, recordLines}
 use Rattle.lines.proofs.PutLines.{recordText}
@@ -13,7 +14,7 @@ use Rattle.texts.proofs.print.put_records.Statement.{statement}
 use Rattle.texts.proofs.print.put_records.Tie as tie
 
 abbrev Inv-loop : tie.InvT-loop
-Inv-loop out₀ from words n at₀ i₀ out at i = (n ≡ length words / 5) × (i ≤ n) × Writing out₀ from (linesText (recordLines (lent [] [] [] [] words))) out at (records-from words i)
+Inv-loop out₀ from words n at₀ i₀ out at i = (n ≡ length words / recordWords) × (i ≤ n) × Writing out₀ from (linesText (recordLines (lent [] [] [] [] words))) out at (records-from words i)
 
 abbrev μ-loop : tie.MeasureT-loop
 μ-loop out₀ from words n at₀ i₀ out at i = n - i
@@ -23,30 +24,24 @@ loop-holds c = let s = c .before .before in (refl, omega arith, begin (s .args .
 
 put-record-requires : tie.Need-put-record-requires Inv-loop μ-loop
 put-record-requires c κs =
-    let p2 = c .before .before in
-    let p4 = p2 .before .before in
-    let p6 = p4 .before .before in
-    let p8 = p6 .before .before in
-    let p12 = p8 .before .before .before .before in
-    let s = p12 .before .before .before in
+    let p3 = c .before .before .before in
+    let s = p3 .before .before .before in
     let words = s .args .words .now in
-    let i = p12 .loop in
-    let line = record-on words (s .pre .0) (i .i) (omega arith) (5 * i .i) (p8 .index .result) (p6 .index2 .result) (p4 .index3 .result) (p2 .index4 .result) (c .index5 .result) refl (p8 .index .ensures) (p6 .index2 .ensures) (p4 .index3 .ensures) (p2 .index4 .ensures) (c .index5 .ensures) in
-    (kind-in words (s .pre .0) (i .i) (omega arith) (5 * i .i) (p8 .index .result) refl (p8 .index .ensures), room-on (recordText (p8 .index .result) (p6 .index2 .result) (p4 .index3 .result) (p2 .index4 .result) (c .index5 .result)) (records-from words (i .i + 1)) line (s .pre .1) (i .inv .2))
+    let i = p3 .loop in
+    let r = c .record-at in
+    let line = record-on words (i .i) (omega arith) (r .result) (r .ensures) in
+    (kind-in words (i .i) (omega arith) (r .result) (r .ensures) (s .pre .0), room-on (recordText (r .result)) (records-from words (i .i + 1)) line (s .pre .1) (i .inv .2))
 
 loop-again : tie.Need-loop-again Inv-loop μ-loop
 loop-again c =
     let p2 = c .before .before in
     let p3 = p2 .before in
-    let p5 = p3 .before .before in
-    let p7 = p5 .before .before in
-    let p9 = p7 .before .before in
-    let p11 = p9 .before .before in
-    let p15 = p11 .before .before .before .before in
-    let s = p15 .before .before .before in
+    let p6 = p3 .before .before .before in
+    let s = p6 .before .before .before in
     let words = s .args .words .now in
-    let i = p15 .loop in
-    let line = record-on words (s .pre .0) (i .i) (omega arith) (5 * i .i) (p11 .index .result) (p9 .index2 .result) (p7 .index3 .result) (p5 .index4 .result) (p3 .index5 .result) refl (p11 .index .ensures) (p9 .index2 .ensures) (p7 .index3 .ensures) (p5 .index4 .ensures) (p3 .index5 .ensures) in
+    let i = p6 .loop in
+    let r = p3 .record-at in
+    let line = record-on words (i .i) (omega arith) (r .result) (r .ensures) in
     (refl, omega arith, step-on _ (records-from words (i .i + 1)) line (i .inv .2) (p2 .put-record .ensures))
 
 same-length : tie.Need-same-length Inv-loop μ-loop
@@ -62,26 +57,7 @@ put-records-spec =
     Inv-loop
     μ-loop
     loop-holds
-    (λ c. omega arith)
-    (λ c. omega arith)
-    (λ c. omega arith)
-    (λ c κs. tt)
-    (λ c. omega arith)
-    (λ c. omega arith)
-    (λ c. omega arith)
-    (λ c κs. tt)
-    (λ c. omega arith)
-    (λ c. omega arith)
-    (λ c. omega arith)
-    (λ c κs. tt)
-    (λ c. omega arith)
-    (λ c. omega arith)
-    (λ c. omega arith)
-    (λ c κs. tt)
-    (λ c. omega arith)
-    (λ c. omega arith)
-    (λ c. omega arith)
-    (λ c κs. tt)
+    (λ c κs. omega arith)
     put-record-requires
     (λ c. omega arith)
     (λ c. omega arith)
