@@ -23,7 +23,7 @@ use print::put_records;
 use print::put_rows;
 
 mod fill; // fill.rt: the two passes of read
-mod limits; // limits.rt: numbers that 01 sets
+pub mod limits; // limits.rt: numbers that 01 sets
 mod print; // print.rt: the lines of a table written
 mod trips; // trips.rt: the round trips over the calls
 
