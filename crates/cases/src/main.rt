@@ -1,8 +1,6 @@
-// Runs stored texts through `evaluate_text` and compares what it prints with what is stored beside them. The arguments name the pairs: a text, then what it prints.
+// Runs stored texts through `evaluate_input` and compares what it prints with what is stored beside them. The arguments name the pairs: a text, then what it prints.
 ghost use Prim.Native.Nat.{_≤_};
 ghost use lib.ListN.{length};
-use evaluation::OUTPUT_ROOM;
-use evaluation::TEXT_ROOM;
 use libc::STDOUT_FILENO;
 
 // A line: a word, and a name.
@@ -28,11 +26,11 @@ fn load(path: &[u8], buffer: &mut [u8]) -> usize
 
 // Whether the text in one file prints what the other file holds; a text that does not is named.
 fn passes(text_path: &[u8], right_path: &[u8]) -> bool {
-    let mut text = [0u8; TEXT_ROOM];
-    let mut right = [0u8; TEXT_ROOM];
-    let mut out = [0u8; OUTPUT_ROOM];
+    let mut text = evaluation::text_buffer();
+    let mut right = evaluation::text_buffer();
+    let mut out = evaluation::output_buffer();
     let n = load(text_path, &mut text);
-    let m = evaluation::evaluate_text(&text[..n], &mut out);
+    let m = evaluation::evaluate_input(&text, n, &mut out);
     let k = load(right_path, &mut right);
     if check::same(&out[..m], &right[..k]) {
         return true;

@@ -11,8 +11,8 @@ ghost use Rattle.operations.specs.Encoding.{useCode, ruleNumbered};
 ghost use Rattle.checks.specs.Encoding.{byteLimit, limitOf, Reads};
 ghost use Rattle.checks.specs.Limits.{rowLimit};
 use crate::limits::PARAMETER_LIMIT;
-use crate::records::index;
-use crate::rows::wide;
+use bits::index;
+use bits::wide;
 
 // Whether a word names no row of a table of n rows.
 pub fn row_outside(n: usize, word: u32) -> bool

@@ -22,19 +22,13 @@ use crate::described::word_outside;
 use crate::described::word_within;
 use crate::refusals;
 use crate::refuse;
+use bits::index;
 use operations::RECORD_WORDS;
 use operations::Record;
 use operations::is_kind;
 use operations::parameter_use;
 use operations::rule;
 use operations::second_use;
-
-// A word as an index.
-pub fn index(x: u32) -> usize
-    ensures { λ r. ⌜ r ≡ x ⌝ }
-{
-    x as usize
-}
 
 // Record i of the words.
 pub fn record_at(words: &[u32], i: usize) -> Record

@@ -11,13 +11,7 @@ use crate::Verdict;
 use crate::limits::WIDTH_LIMIT;
 use crate::refusals;
 use crate::refuse;
-
-// A byte as a number of 32 bits.
-pub fn wide(x: u8) -> u32
-    ensures { λ r. ⌜ r ≡ x ⌝ }
-{
-    x as u32
-}
+use bits::wide;
 
 // Check 4 of a width; i is its place.
 pub fn check_width(w: u32, i: usize) -> Verdict

@@ -1,3 +1,4 @@
 -- The laws and proofs of `evaluation`.
 pub mod Lines
 pub mod Printed
+pub mod Inputs

@@ -1,5 +1,8 @@
 -- What `evaluate` prints for a text (01, "Text"): "runs all records and prints the whole table, or one line of three fields".
---   heldRows, heldRecords   how many rows and records it holds;   outputRoom   bytes that its output never exceeds
+--   heldRows, heldRecords   how many rows and records it holds
+--   textRoom                bytes of its buffer for an input;   outputRoom   bytes that its output never exceeds
+--   Rooms text n out        the buffers have this room, and n bytes of the first are filled
+--   HeldOf text n input     the n bytes are the input, or as much of it as the buffer holds
 --   Printed bytes r old new the bytes are counted by r and put into the buffer
 --   refusedWord, refusedLine n i   the first field, and the line, of a refusal: its number and its place
 --   printedRun t r          what run's outcome r on the table t prints
@@ -8,14 +11,14 @@
 --   evaluateIn text lent    read into the slices lent, then that;   evaluateOf text   with heldSlices
 use mathlib.Core.Path.{_≡_}
 use mathlib.Core.List.{List, [], _∷_, _++_}
-use Prim.Native.Nat.{ℕ, _+_, _*_}
-use lib.ListN.{length, replicate}
+use Prim.Native.Nat.{ℕ, _+_, _*_, _≤_}
+use lib.ListN.{length, take, replicate}
 use Rattle.operations.specs.Limits.{recordWords}
 use Rattle.checks.specs.Limits.{rowLimit, recordLimit}
 use Rattle.checks.specs.Check.{Answer, done, refused}
 use Rattle.checks.specs.Table.{Table, withRows, recordCount}
 use Rattle.tables.specs.Run.{Ran, runOf}
-use Rattle.grammar.specs.Limits.{rowBytes, recordBytes}
+use Rattle.grammar.specs.Limits.{textLimit, rowBytes, recordBytes}
 use Rattle.grammar.specs.Lists.{filled}
 use Rattle.operations.specs.Kind.{bytes}
 use Rattle.grammar.specs.Words.{lf, tab}
@@ -38,6 +41,18 @@ heldRecords = recordLimit
 
 abbrev pub outputRoom : ℕ
 outputRoom = rowBytes * heldRows + recordBytes * heldRecords
+
+-- "11 over 40,000 bytes": one byte more shows a longer input to be longer
+abbrev pub textRoom : ℕ
+textRoom = textLimit + 1
+
+pub record Rooms (text : List ℕ) (n : ℕ) (out : List ℕ) : Type 0 where
+  pub text-room : textRoom ≤ length text
+  pub within : n ≤ length text
+  pub output-room : outputRoom ≤ length out
+
+pub record HeldOf (text : List ℕ) (n : ℕ) (input : List ℕ) : Type 0 where
+  pub first-bytes : take n text ≡ take (length text) input
 
 abbrev pub refusedWord : List ℕ
 refusedWord = bytes "refused"

@@ -1,8 +1,11 @@
 // From a text to what `evaluate` prints (01, "Text").
-ghost use Prim.Native.Nat.{_≤_};
+ghost use mathlib.Core.Path.{_≡_};
+ghost use mathlib.Core.List.{List};
+ghost use Prim.Native.Nat.{ℕ, _≤_};
 ghost use lib.ListN.{length};
 ghost use Rattle.checks.specs.Model.{lent};
-ghost use Rattle.evaluation.specs.Evaluate.{Printed, outputRoom, refusedLine, printedTable, evaluateIn, evaluateOf};
+ghost use Rattle.evaluation.specs.Evaluate.{Printed, Rooms, HeldOf, textRoom, outputRoom, refusedLine, printedTable, evaluateIn, evaluateOf};
+use checks::limits::RECORD_LIMIT;
 use checks::limits::ROW_LIMIT;
 use lines::put::put_number;
 use lines::put::put_word;
@@ -11,17 +14,34 @@ use tables::RunAnswer;
 use tables::run;
 use texts::BytesAnswer;
 use texts::ReadAnswer;
+use texts::limits::RECORD_BYTES;
+use texts::limits::ROW_BYTES;
+use texts::limits::TEXT_LIMIT;
 use texts::read;
 use texts::write;
 
-// One byte more than a text may have: a buffer that shows a longer text to be longer.
-pub const TEXT_ROOM: usize = 40001;
+// One byte more than a text may have: a buffer that shows a longer input to be longer.
+const TEXT_ROOM: usize = TEXT_LIMIT + 1;
 
-// Size's bytes for 256 rows and 1,024 records, which no output exceeds.
-pub const OUTPUT_ROOM: usize = 35840;
+// Size's bytes for the most rows and records, which no output exceeds.
+const OUTPUT_ROOM: usize = ROW_BYTES * ROW_LIMIT + RECORD_BYTES * RECORD_LIMIT;
 
-// The words of 1,024 records.
-const HELD_WORDS: usize = 5120;
+// The words of the most records.
+const HELD_WORDS: usize = RECORD_WORDS * RECORD_LIMIT;
+
+// A buffer for an input, all 0.
+pub fn text_buffer() -> [u8; TEXT_ROOM]
+    ensures { λ r. ⌜ textRoom ≡ length r ⌝ }
+{
+    [0u8; TEXT_ROOM]
+}
+
+// A buffer for what is printed, all 0.
+pub fn output_buffer() -> [u8; OUTPUT_ROOM]
+    ensures { λ r. ⌜ outputRoom ≡ length r ⌝ }
+{
+    [0u8; OUTPUT_ROOM]
+}
 
 // The line of a refusal, put into the buffer from its start; its bytes are counted.
 fn put_refusal(out: &mut [u8], number: u32, place: usize) -> usize
@@ -45,7 +65,9 @@ fn print_table(
     out: &mut [u8],
 ) -> usize
     requires { ⌜ outputRoom ≤ length (now out) ⌝ }
-    ensures { λ r. ⌜ Printed (printedTable (lent (now (width .entry)) (now (lock .entry)) (now (mask .entry)) (now (value .entry)) (now (words .entry)))) r (now (out .entry)) (now (out .exit)) ⌝ }
+    ensures { λ r.
+        let table = lent (now (width .entry)) (now (lock .entry)) (now (mask .entry)) (now (value .entry)) (now (words .entry)) in
+        ⌜ Printed (printedTable table) r (now (out .entry)) (now (out .exit)) ⌝ }
 {
     let last = words.len() / RECORD_WORDS;
     match run(width, lock, mask, value, words, 0, last) {
@@ -71,7 +93,9 @@ fn evaluate_in(
     out: &mut [u8],
 ) -> usize
     requires { ⌜ outputRoom ≤ length (now out) ⌝ }
-    ensures { λ r. ⌜ Printed (evaluateIn (now (text .entry)) (lent (now (width .entry)) (now (lock .entry)) (now (mask .entry)) (now (value .entry)) (now (words .entry)))) r (now (out .entry)) (now (out .exit)) ⌝ }
+    ensures { λ r.
+        let slices = lent (now (width .entry)) (now (lock .entry)) (now (mask .entry)) (now (value .entry)) (now (words .entry)) in
+        ⌜ Printed (evaluateIn (now (text .entry)) slices) r (now (out .entry)) (now (out .exit)) ⌝ }
 {
     match read(text, width, lock, mask, value, words) {
         ReadAnswer::Refused(r) => put_refusal(out, r.number, r.place),
@@ -90,7 +114,7 @@ fn evaluate_in(
 }
 
 // What `evaluate` prints for a text, put into the buffer from its start; its bytes are counted.
-pub fn evaluate_text(text: &[u8], out: &mut [u8]) -> usize
+fn evaluate_text(text: &[u8], out: &mut [u8]) -> usize
     requires { ⌜ outputRoom ≤ length (now out) ⌝ }
     ensures { λ r. ⌜ Printed (evaluateOf (now (text .entry))) r (now (out .entry)) (now (out .exit)) ⌝ }
 {
@@ -108,4 +132,12 @@ pub fn evaluate_text(text: &[u8], out: &mut [u8]) -> usize
         &mut words,
         out,
     )
+}
+
+// What `evaluate` prints for an input, of which the first bytes, as many as the buffer holds, were put at the buffer's start: n of them.
+pub fn evaluate_input(text: &[u8], n: usize, out: &mut [u8]) -> usize
+    requires { ⌜ Rooms (now text) n (now out) ⌝ }
+    ensures { λ r. ⌜ ((input : List ℕ) → HeldOf (now (text .entry)) n input → Printed (evaluateOf input) r (now (out .entry)) (now (out .exit))) ⌝ }
+{
+    evaluate_text(&text[..n], out)
 }

@@ -1,20 +1,15 @@
 // Writing the lines of a table into a lent buffer (01, "Text": all row lines, then record lines).
 ghost use mathlib.Core.Path.{_≡_};
 ghost use mathlib.Core.List.{[]};
-ghost use Prim.Native.Nat.{_/_, _<_};
-ghost use lib.ListN.{length};
-ghost use Rattle.operations.specs.Limits.{recordWords};
-ghost use Rattle.operations.specs.Record.{wordsOf};
-ghost use Rattle.checks.specs.Table.{recordOf};
 ghost use Rattle.checks.specs.Model.{lent};
 ghost use Rattle.grammar.specs.Print.{linesText, rowLines, recordLines};
 ghost use Rattle.lines.specs.Put.{Holds, Put};
 ghost use Rattle.texts.specs.Print.{RowsFit, RecordsFit};
 use bits::wide;
+use checks::records::record_at;
 use lines::put::put_record;
 use lines::put::put_row;
 use operations::RECORD_WORDS;
-use operations::Record;
 
 // Writes the row lines of a table.
 pub fn put_rows(out: &mut [u8], width: &[u8], lock: &[u8], mask: &[u32], value: &[u32]) -> usize
@@ -32,21 +27,6 @@ pub fn put_rows(out: &mut [u8], width: &[u8], lock: &[u8], mask: &[u32], value: 
         i += 1;
     }
     at
-}
-
-// Record i of the words.
-fn record_at(words: &[u32], i: usize) -> Record
-    requires { ⌜ i < length (now words) / recordWords ⌝ }
-    ensures { λ r. ⌜ wordsOf r ≡ recordOf (lent [] [] [] [] (now (words .entry))) i ⌝ }
-{
-    let k = RECORD_WORDS * i;
-    Record {
-        kind: words[k],
-        t: words[k + 1],
-        a: words[k + 2],
-        b: words[k + 3],
-        p: words[k + 4],
-    }
 }
 
 // Writes the record lines of a table from `from` on.

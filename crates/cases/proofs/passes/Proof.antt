@@ -1,19 +1,16 @@
 -- `cases::passes` is safe and ends: the parts that it compares lie within their buffers. Assumes nothing but what libc and os do.
 use mathlib.Core.Path.{sym}
 use lib.Seq.{length-take-le}
-use Rattle.evaluation.proofs.Printed.{printed-within}
+use Rattle.evaluation.proofs.Inputs.{input-within}
 use borrow.Author.Needs.{needs}
 use Rattle.cases.proofs.passes.Statement.{statement}
 use Rattle.cases.proofs.passes.Tie as tie
 
-slice-aggregate-evaluate-text : tie.Need-slice-aggregate-evaluate-text
-slice-aggregate-evaluate-text c = sym (length-take-le _ (c .before .before .load .last .1 .0) (c .before .before .load .ensures))
-
 array-share-prefix-out : tie.Need-array-share-prefix-out
-array-share-prefix-out c = printed-within (c .before .before .before .before .evaluate-text .ensures)
+array-share-prefix-out c = input-within (c .before .before .before .before .evaluate-input .ensures) (search needs)
 
 slice-aggregate-same : tie.Need-slice-aggregate-same
-slice-aggregate-same c = sym (length-take-le _ (c .before .before .before .before .before .evaluate-text .last .1 .0) (printed-within (c .before .before .before .before .before .evaluate-text .ensures)))
+slice-aggregate-same c = sym (length-take-le _ _ (array-share-prefix-out (c .before)))
 
 slice-aggregate-same-2 : tie.Need-slice-aggregate-same-2
 slice-aggregate-same-2 c = sym (length-take-le _ (c .before .before .before .load2 .last .1 .0) (c .before .before .before .load2 .ensures))
@@ -22,10 +19,12 @@ pub passes-spec : {M : Type 1} → statement M
 passes-spec =
     tie.close
     (tie.spec
+    (λ c κs. search needs)
+    (λ c κs. search needs)
+    (λ c κs. search needs)
     (λ c. search needs)
     (λ c κs. search needs)
     (λ c. search needs)
-    slice-aggregate-evaluate-text
     (λ c. search needs)
     (λ c κs. search needs)
     (λ c. search needs)
