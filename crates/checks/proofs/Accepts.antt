@@ -54,7 +54,13 @@ shape-passed t A = (
   not-zero (length (t .widths)) (A .rows-least),
   (
     le→nltb _ _ (A .rows-most),
-    (not-not-T (eqb (length (t .locks)) (length (t .widths))) (eq→eqb (A .locks-length)), (not-not-T (eqb (length (t .masks)) (length (t .widths))) (eq→eqb (A .masks-length)), (not-not-T (eqb (length (t .values)) (length (t .widths))) (eq→eqb (A .values-length)), tt))),
+    (
+      not-not-T (eqb (length (t .locks)) (length (t .widths))) (eq→eqb (A .locks-length)),
+      (
+        not-not-T (eqb (length (t .masks)) (length (t .widths))) (eq→eqb (A .masks-length)),
+        (not-not-T (eqb (length (t .values)) (length (t .widths))) (eq→eqb (A .values-length)), tt),
+      ),
+    ),
   ),
 )
 
@@ -72,7 +78,8 @@ module _ (t : Table) where
   table-of-passed P =
       let Q = passed-right (shape t) (counted t ++ (rowChecks t ++ recordChecks t)) P in
       let R = passed-right (counted t) (rowChecks t ++ recordChecks t) Q in
-      table-of-parts t (passed-left (shape t) (counted t ++ (rowChecks t ++ recordChecks t)) P) (passed-left (counted t) (rowChecks t ++ recordChecks t) Q) (passed-left (rowChecks t) (recordChecks t) R)
+      table-of-parts t (passed-left (shape t) (counted t ++ (rowChecks t ++ recordChecks t)) P)
+      (passed-left (counted t) (rowChecks t ++ recordChecks t) Q) (passed-left (rowChecks t) (recordChecks t) R)
       (λ i h. record-of-passed (t .widths) (recordOf t i) i (rising-elim (closed t) (recordCount t) (passed-right (rowChecks t) (recordChecks t) R) i h))
 
   pub passed-of-table : TablePassed t → Passed (sizeChecks t)

@@ -6,6 +6,7 @@ use lib.Dec.{nleb→lt}
 use lib.ListN.{length}
 use Rattle.operations.specs.Record.{fault}
 use Rattle.checks.specs.Check.{done, Check, placed, Passed}
+use Rattle.checks.specs.Limits.{rowLimit}
 use Rattle.checks.specs.Table.{Table}
 use Rattle.checks.specs.Checks.{rowShapeFaults, rowFaultsAt, rowChecks, rowOutside, countChecks}
 use Rattle.checks.specs.Accepted.{RowPassed}
@@ -29,8 +30,10 @@ module _ (t : Table) (i : ℕ) (e : judged (countChecks t i) ≡ done tt) where
   pub row-in : i < length (t .widths)
   row-in = nleb→lt (length (t .widths)) i (passed-right (rowChecks t) seven (passed-right shape (rowChecks t ++ seven) passed) .0)
 
-  pub row-slices : (length (t .widths) ≤ 256) × RowSlices (t .widths) (t .locks) (t .masks) (t .values)
+  pub row-slices : (length (t .widths) ≤ rowLimit) × RowSlices (t .widths) (t .locks) (t .masks) (t .values)
   row-slices = slices-of-shape t (passed-left shape (rowChecks t ++ seven) passed)
 
   pub row-good : RowPassed t i
-  row-good = row-of-passed t i i (rising-elim (λ j. placed j (rowFaultsAt t j)) (length (t .widths)) (passed-left (rowChecks t) seven (passed-right shape (rowChecks t ++ seven) passed)) i row-in)
+  row-good =
+      row-of-passed t i i
+      (rising-elim (λ j. placed j (rowFaultsAt t j)) (length (t .widths)) (passed-left (rowChecks t) seven (passed-right shape (rowChecks t ++ seven) passed)) i row-in)

@@ -13,7 +13,7 @@ use Rattle.operations.specs.Kind.{Use, asRow, asNumber, unused}
 use Rattle.operations.specs.Kinds.{isKind, kindOf}
 use Rattle.operations.specs.declared.Record.{Record}
 use Rattle.operations.specs.Record.{wordsOf, Fault, wordOutside, misused, namedFaults}
-use Rattle.operations.specs.Limits.{parameterLimit}
+use Rattle.operations.specs.Limits.{recordWords, parameterLimit}
 use Rattle.bits.proofs.Bools.{T-not-not, not-not-T}
 use Rattle.operations.proofs.Sound.{first-is-row}
 use Rattle.checks.specs.Check.{placed, Passed}
@@ -84,9 +84,10 @@ passed-anywhere i j (f ∷ fs) P = (P .0, passed-anywhere i j fs (P .1))
 
 -- ---- the words of a record, in the slice of all words
 
-pub record-words : (words : List ℕ) (k : ℕ) → k + 5 ≤ length words → take 5 (drop k words) ≡ getD words k 0 ∷ getD words (k + 1) 0 ∷ getD words (k + 2) 0 ∷ getD words (k + 3) 0 ∷ getD words (k + 4) 0 ∷ []
+pub record-words : (words : List ℕ) (k : ℕ) → k + recordWords ≤ length words
+    → take recordWords (drop k words) ≡ getD words k 0 ∷ getD words (k + 1) 0 ∷ getD words (k + 2) 0 ∷ getD words (k + 3) 0 ∷ getD words (k + 4) 0 ∷ []
 record-words words k h =
-    ap (take 5)
+    ap (take recordWords)
     (drop-cons words k 0 (omega arith)
     ∙ ap (λ (l : List ℕ). getD words k 0 ∷ l) (drop-cons words (suc k) 0 (omega arith)
     ∙ ap (λ (l : List ℕ). getD words (suc k) 0 ∷ l) (drop-cons words (suc (suc k)) 0 (omega arith)

@@ -48,4 +48,6 @@ pub records-open : (t : Table) → recordsWith true t ≡ openChecks t
 records-open t = refl
 
 pub records-closed : (t : Table) → recordsWith false t ≡ recordChecks t
-records-closed t = rising-ext (recordWith false t) (λ i. placed i (recordFaults (t .widths) (recordOf t i))) 0 (recordCount t) (λ i. append-nil (placed i (recordFaults (t .widths) (recordOf t i))))
+records-closed t =
+    rising-ext (recordWith false t) (λ i. placed i (recordFaults (t .widths) (recordOf t i))) 0 (recordCount t)
+    (λ i. append-nil (placed i (recordFaults (t .widths) (recordOf t i))))

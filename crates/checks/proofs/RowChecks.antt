@@ -37,7 +37,8 @@ row-of-passed t i j P =
       formed = record {
         mask-below = nleb→lt _ _ (P .1 .1 .1 .0);
         value-below = nleb→lt _ _ (P .1 .1 .1 .1 .0);
-        apart = λ k. apart-of-and (getD (t .masks) i 0) (getD (t .values) i 0) k (eqb→eq _ _ (T-not-not (eqb (bitAnd (getD (t .masks) i 0) (getD (t .values) i 0)) 0) (P .1 .1 .1 .1 .1 .0)));
+        apart = λ k. apart-of-and (getD (t .masks) i 0) (getD (t .values) i 0) k
+            (eqb→eq _ _ (T-not-not (eqb (bitAnd (getD (t .masks) i 0) (getD (t .values) i 0)) 0) (P .1 .1 .1 .1 .1 .0)));
       };
     }
 
@@ -96,4 +97,6 @@ passed-of-record widths words i R =
     let a = not-outside (kindIn words .use-a) (length widths) (firstWord words) _ (R .operands-in) in
     let b = not-outside (kindIn words .use-b) (length widths) (secondWord words) _ (a .1) in
     let p = not-outside (kindIn words .use-p) (length widths) (parameterWord words) [] (b .1) in
-    (not-not-T (isKind (kindWord words)) (R .kind-known), (lt→nleb (length widths) (targetWord words) (R .target-in), (a .0, (b .0, (p .0, (R .first-used, (R .second-used, (R .parameter-used, (not-not-T (widthsFit widths words) (R .widths-fit), tt)))))))))
+    let t = lt→nleb (length widths) (targetWord words) (R .target-in) in
+    let fit = not-not-T (widthsFit widths words) (R .widths-fit) in
+    (not-not-T (isKind (kindWord words)) (R .kind-known), (t, (a .0, (b .0, (p .0, (R .first-used, (R .second-used, (R .parameter-used, (fit, tt)))))))))

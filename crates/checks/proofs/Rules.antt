@@ -60,4 +60,5 @@ module _ (kind : ℕ) (h : T (isKind kind)) (code : ℕ) (e : code ≡ ruleCode 
   fits-of widths t a b p r q =
       q ∙ (λ ι. asks (rule-is ι) (widthAt widths t) (widthAt widths a ∷ widthAt widths b ∷ widthAt widths p ∷ []) p)
       ∙ sym (as-read widths (widthAt widths t) a b p (kindOf kind .rule) (kindOf kind .use-b) (kindOf kind .use-p) (rule-suits kind h))
-      ∙ (λ ι. asks (kindOf kind .rule) (widthAt widths t) (map (widthAt widths) (used (sym (first-is-row kind h) ι) a (used (kindOf kind .use-b) b (used (kindOf kind .use-p) p [])))) p)
+      ∙ (let rest = used (kindOf kind .use-b) b (used (kindOf kind .use-p) p []) in
+      λ ι. asks (kindOf kind .rule) (widthAt widths t) (map (widthAt widths) (used (sym (first-is-row kind h) ι) a rest)) p)

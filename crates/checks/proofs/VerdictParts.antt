@@ -39,7 +39,7 @@ module _ (f : ℕ → List Check) (n : ℕ) where
   pub rest-start : judged (rising f 0 n) ≡ rest 0
   rest-start = ap (λ (m : ℕ). judged (rising f 0 m)) (sym (sub-zero n))
 
-  pub rest-step : (i : ℕ) → i < n → rest i ≡ judged (f i ++ rising f (i + 1) (n - (i + 1)))
+  rest-step : (i : ℕ) → i < n → rest i ≡ judged (f i ++ rising f (i + 1) (n - (i + 1)))
   unfolding rising
   rest-step i h =
       let e : n - i ≡ suc (n - (i + 1)) = omega arith in
@@ -48,6 +48,14 @@ module _ (f : ℕ → List Check) (n : ℕ) where
   pub rest-end : (i : ℕ) → n ≤ i → rest i ≡ done tt
   unfolding rising verdict
   rest-end i h = let e : n - i ≡ 0 = omega arith in ap (λ (m : ℕ). judged (rising f i m)) e
+
+-- one turn: the verdict at place i stops the loop, or leaves the verdict to the places after it
+module _ (f : ℕ → List Check) (n i : ℕ) (h : i < n) (r : Verdict) (e : verdictModel r ≡ judged (f i)) where
+  pub turn-stops : (q : Refusal) → r ≡ Refused q → rest f n i ≡ verdictModel (Refused q)
+  turn-stops q p = rest-step f n i h ∙ stops r (f i) (rising f (i + 1) (n - (i + 1))) e q p
+
+  pub turn-goes-on : r ≡ Clear → rest f n i ≡ rest f n (i + 1)
+  turn-goes-on p = rest-step f n i h ∙ goes-on r (f i) (rising f (i + 1) (n - (i + 1))) e p
 
 -- ---- a plane against the mask of its width
 

@@ -42,7 +42,8 @@ used-in asRow n word rest h e = e
 used-in asNumber n word rest h e = (h, e)
 used-in unused n word rest h e = (h, e)
 
-used-map : (f : ℕ → Row) (u : Use) (word : ℕ) (r : Row) (rows : List Row) (rest : List ℕ) → (T (isRow u) → r ≡ f word) → rows ≡ map f rest → used u r rows ≡ map f (used u word rest)
+used-map : (f : ℕ → Row) (u : Use) (word : ℕ) (r : Row) (rows : List Row) (rest : List ℕ)
+    → (T (isRow u) → r ≡ f word) → rows ≡ map f rest → used u r rows ≡ map f (used u word rest)
 used-map f asRow word r rows rest e g = let p = e tt in λ ι. p ι ∷ g ι
 used-map f asNumber word r rows rest e g = g
 used-map f unused word r rows rest e g = g
@@ -79,7 +80,8 @@ module _ (widths : List ℕ) (s : State) (r : Record) (R : StepReady widths s (w
   pub kind-in : T (isKind (r .kind))
   kind-in = R .passed .kind-known
 
-  first-part : (usedRow (kindOf (r .kind) .use-a) (r .a) < length widths) × All (λ i. i < length widths) (used (kindOf (r .kind) .use-b) (r .b) (used (kindOf (r .kind) .use-p) (r .p) []))
+  first-part : (usedRow (kindOf (r .kind) .use-a) (r .a) < length widths)
+      × All (λ i. i < length widths) (used (kindOf (r .kind) .use-b) (r .b) (used (kindOf (r .kind) .use-p) (r .p) []))
   unfolding rowsNamed
   first-part = used-in (kindOf (r .kind) .use-a) (length widths) (r .a) _ (R .some-row) (R .passed .operands-in)
 
@@ -95,22 +97,30 @@ module _ (widths : List ℕ) (s : State) (r : Record) (R : StepReady widths s (w
   pub condition-in : ip < length widths
   condition-in = used-in (kindOf (r .kind) .use-p) (length widths) (r .p) [] (R .some-row) (second-part .1) .0
 
+  abbrev mask : ℕ → ℕ
+  mask i = getD (s .masks) i 0
+
+  abbrev value : ℕ → ℕ
+  value i = getD (s .values) i 0
+
   -- the rows that the kernel is given
   abbrev pub given : List Row
-  given = operands (kindOf (r .kind)) (rowAt widths s (r .a)) (rowAt widths s ib) (row 1 (getD (s .masks) ip 0) (getD (s .values) ip 0))
+  given = operands (kindOf (r .kind)) (rowAt widths s (r .a)) (rowAt widths s ib) (row 1 (mask ip) (value ip))
 
   rows-are : given ≡ map (rowAt widths s) (rowsNamed (wordsOf r))
   unfolding rowsNamed
   rows-are =
-      used-map (rowAt widths s) (kindOf (r .kind) .use-a) (r .a) (rowAt widths s (r .a)) _ (used (kindOf (r .kind) .use-b) (r .b) (used (kindOf (r .kind) .use-p) (r .p) [])) (λ u. refl)
-      (used-map (rowAt widths s) (kindOf (r .kind) .use-b) (r .b) (rowAt widths s ib) _ (used (kindOf (r .kind) .use-p) (r .p) []) (λ u. ap (rowAt widths s) (used-same (kindOf (r .kind) .use-b) (r .b) u))
-      (used-map (rowAt widths s) (kindOf (r .kind) .use-p) (r .p) (row 1 (getD (s .masks) ip 0) (getD (s .values) ip 0)) [] [] condition refl))
+      used-map (rowAt widths s) (kindOf (r .kind) .use-a) (r .a) (rowAt widths s (r .a)) _ (used (kindOf (r .kind) .use-b) (r .b) (used (kindOf (r .kind) .use-p) (r .p) []))
+      (λ u. refl)
+      (used-map (rowAt widths s) (kindOf (r .kind) .use-b) (r .b) (rowAt widths s ib) _ (used (kindOf (r .kind) .use-p) (r .p) [])
+      (λ u. ap (rowAt widths s) (used-same (kindOf (r .kind) .use-b) (r .b) u))
+      (used-map (rowAt widths s) (kindOf (r .kind) .use-p) (r .p) (row 1 (mask ip) (value ip)) [] [] condition refl))
     where
-      condition : T (isRow (kindOf (r .kind) .use-p)) → row 1 (getD (s .masks) ip 0) (getD (s .values) ip 0) ≡ rowAt widths s (r .p)
+      condition : T (isRow (kindOf (r .kind) .use-p)) → row 1 (mask ip) (value ip) ≡ rowAt widths s (r .p)
       condition u =
           let e = sym (one-bit (r .kind) kind-in u widths (widthAt widths (r .t)) (r .a) (r .b) (r .p) (R .passed .widths-fit)) in
           let f = used-same (kindOf (r .kind) .use-p) (r .p) u in
-          λ ι. row (e ι) (getD (s .masks) (f ι) 0) (getD (s .values) (f ι) 0)
+          λ ι. row (e ι) (mask (f ι)) (value (f ι))
 
   widths-are : widthsOf (map (rowAt widths s) (rowsNamed (wordsOf r))) ≡ map (widthAt widths) (rowsNamed (wordsOf r))
   widths-are = map-map (λ (q : Row). q .width) (rowAt widths s) (rowsNamed (wordsOf r))
@@ -171,12 +181,13 @@ module _ (widths : List ℕ) (s : State) (r : Record) (R : StepReady widths s (w
         }
 
     abbrev handed : List Row
-    handed = operands (kindOf (r .kind)) (row wa (getD (s .masks) j 0) (getD (s .values) j 0)) (row wb (getD (s .masks) k 0) (getD (s .values) k 0)) (row 1 (getD (s .masks) l 0) (getD (s .values) l 0))
+    handed = operands (kindOf (r .kind)) (row wa (mask j) (value j)) (row wb (mask k) (value k)) (row 1 (mask l) (value l))
 
     handed-given : handed ≡ given
     handed-given =
         let second-width = H .second-width ∙ ap (widthAt widths) (H .second) in
-        λ ι. operands (kindOf (r .kind)) (row (first-width ι) (getD (s .masks) (H .first ι) 0) (getD (s .values) (H .first ι) 0)) (row (second-width ι) (getD (s .masks) (H .second ι) 0) (getD (s .values) (H .second ι) 0)) (row 1 (getD (s .masks) (H .condition ι) 0) (getD (s .values) (H .condition ι) 0))
+        λ ι. operands (kindOf (r .kind)) (row (first-width ι) (mask (H .first ι)) (value (H .first ι))) (row (second-width ι) (mask (H .second ι)) (value (H .second ι)))
+        (row 1 (mask (H .condition ι)) (value (H .condition ι)))
 
     pub code-ready : T (isKind (r .kind)) × (wt ≤ widthLimit) × (wa ≤ widthLimit) × Ready (kindOf (r .kind)) wt (r .p) handed
     code-ready = (

@@ -82,7 +82,10 @@ module _ (t : Table) (first last : ℕ) (A : Accepted t first last) where
         some-row = A .table .rows-least;
         wide = λ i h. (A .table .row-passed i h .width-least, A .table .row-passed i h .width-most);
         fits = start-fits t (A .table);
-        passed = λ j h. let e = part-count in let w = A .within in subst (RecordPassed (t .widths)) (sym (part-record j (omega arith))) (A .table .record-passed (first + j) (omega arith));
+        passed = λ j h.
+            let e = part-count in
+            let w = A .within in
+            subst (RecordPassed (t .widths)) (sym (part-record j (omega arith))) (A .table .record-passed (first + j) (omega arith));
       }
 
   -- stepping through the part leaves the rows of the stretch

@@ -19,13 +19,15 @@ returns : tie.Need-returns
 returns c =
     let f = c .before .before in
     let s = start f in
-    ap verdictModel (c .enum-told .given .1) ∙ sym (stops (f .check-rows .result) (rowChecks (table s)) (recordsWith (s .args .locked) (table s)) (f .check-rows .ensures) _ (c .enum-told .given .1))
+    ap verdictModel (c .enum-told .given .1)
+    ∙ sym (stops (f .check-rows .result) (rowChecks (table s)) (recordsWith (s .args .locked) (table s)) (f .check-rows .ensures) _ (c .enum-told .given .1))
 
 returns-2 : tie.Need-returns-2
 returns-2 c =
     let f = c .before .before .before in
     let s = start f in
-    c .check-records .ensures ∙ sym (goes-on (f .check-rows .result) (rowChecks (table s)) (recordsWith (s .args .locked) (table s)) (f .check-rows .ensures) (c .before .enum-told2 .given .1))
+    c .check-records .ensures
+    ∙ sym (goes-on (f .check-rows .result) (rowChecks (table s)) (recordsWith (s .args .locked) (table s)) (f .check-rows .ensures) (c .before .enum-told2 .given .1))
 
 pub check-body-spec : {M : Type 1} → statement M
 check-body-spec = tie.close (tie.spec (λ c κs. search needs) (λ c. search needs) returns (λ c. search needs) (λ c κs. search needs) returns-2)

@@ -30,7 +30,8 @@ unfolding countChecks
 returns c =
     let f = c .before .before in
     let s = start f in
-    ap verdictModel (c .enum-told .given .1) ∙ sym (stops (f .check-shape .result) (shape s) (rowChecks (table s) ++ seven s) (f .check-shape .ensures) _ (c .enum-told .given .1))
+    ap verdictModel (c .enum-told .given .1)
+    ∙ sym (stops (f .check-shape .result) (shape s) (rowChecks (table s) ++ seven s) (f .check-shape .ensures) _ (c .enum-told .given .1))
 
 past-shape : (c : tie.After-enum-told2) → let s = start (c .before .before) in judged (countChecks (table s) (s .args .row)) ≡ judged (rowChecks (table s) ++ seven s)
 unfolding countChecks
@@ -49,7 +50,8 @@ returns-2 : tie.Need-returns-2
 returns-2 c =
     let g = c .before .before in
     let s = start (g .before .before .before) in
-    ap verdictModel (c .enum-told3 .given .1) ∙ sym (past-shape (g .before) ∙ stops (g .check-rows .result) (rowChecks (table s)) (seven s) (g .check-rows .ensures) _ (c .enum-told3 .given .1))
+    ap verdictModel (c .enum-told3 .given .1)
+    ∙ sym (past-shape (g .before) ∙ stops (g .check-rows .result) (rowChecks (table s)) (seven s) (g .check-rows .ensures) _ (c .enum-told3 .given .1))
 
 past-rows : (c : tie.After-enum-told4) → let s = start (c .before .before .before .before .before) in judged (countChecks (table s) (s .args .row)) ≡ judged (seven s)
 past-rows c =

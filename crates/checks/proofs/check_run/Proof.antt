@@ -29,7 +29,8 @@ unfolding runChecks
 returns c =
     let f = c .before .before in
     let s = start f in
-    ap verdictModel (c .enum-told .given .1) ∙ sym (stops (f .check-head .result) (headChecks (table s)) (stretch s ++ body s) (f .check-head .ensures) _ (c .enum-told .given .1))
+    ap verdictModel (c .enum-told .given .1)
+    ∙ sym (stops (f .check-head .result) (headChecks (table s)) (stretch s ++ body s) (f .check-head .ensures) _ (c .enum-told .given .1))
 
 past-head : (c : tie.After-enum-told2) → let s = start (c .before .before) in judged (runChecks (table s) (s .args .first) (s .args .last)) ≡ judged (stretch s ++ body s)
 unfolding runChecks
@@ -42,7 +43,8 @@ returns-2 : tie.Need-returns-2
 returns-2 c =
     let g = c .before .before in
     let s = start (g .before .before .before) in
-    ap verdictModel (c .enum-told3 .given .1) ∙ sym (past-head (g .before) ∙ stops (g .check-stretch .result) (stretch s) (body s) (g .check-stretch .ensures) _ (c .enum-told3 .given .1))
+    ap verdictModel (c .enum-told3 .given .1)
+    ∙ sym (past-head (g .before) ∙ stops (g .check-stretch .result) (stretch s) (body s) (g .check-stretch .ensures) _ (c .enum-told3 .given .1))
 
 check-body-requires : tie.Need-check-body-requires
 check-body-requires c κs =
@@ -54,7 +56,8 @@ returns-3 : tie.Need-returns-3
 returns-3 c =
     let g = c .before .before .before in
     let s = start (g .before .before .before) in
-    c .check-body .ensures ∙ sym (past-head (g .before) ∙ goes-on (g .check-stretch .result) (stretch s) (body s) (g .check-stretch .ensures) (c .before .enum-told4 .given .1))
+    c .check-body .ensures
+    ∙ sym (past-head (g .before) ∙ goes-on (g .check-stretch .result) (stretch s) (body s) (g .check-stretch .ensures) (c .before .enum-told4 .given .1))
 
 pub check-run-spec : {M : Type 1} → statement M
 check-run-spec =

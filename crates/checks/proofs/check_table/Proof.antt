@@ -22,7 +22,8 @@ unfolding sizeChecks
 returns c =
     let f = c .before .before in
     let t = table (start f) in
-    ap verdictModel (c .enum-told .given .1) ∙ sym (stops (f .check-head .result) (headChecks t) (rowChecks t ++ recordChecks t) (f .check-head .ensures) _ (c .enum-told .given .1))
+    ap verdictModel (c .enum-told .given .1)
+    ∙ sym (stops (f .check-head .result) (headChecks t) (rowChecks t ++ recordChecks t) (f .check-head .ensures) _ (c .enum-told .given .1))
 
 check-body-requires : tie.Need-check-body-requires
 check-body-requires c κs =

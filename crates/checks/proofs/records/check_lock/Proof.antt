@@ -11,7 +11,8 @@ returns : tie.Need-returns
 returns c =
     let j = c .before .before .before in
     let a = j .before .before .before .args in
-    c .refuse .ensures ∙ sym (lock-refused (a .locked) (a .lock .now) (a .r) (a .i) (j .before .if1 .taken) (ap (λ (x : ℕ). getD (a .lock .now) x 0) (sym (j .index .ensures)) ∙ c .before .if2 .taken))
+    let e = ap (λ (x : ℕ). getD (a .lock .now) x 0) (sym (j .index .ensures)) ∙ c .before .if2 .taken in
+    c .refuse .ensures ∙ sym (lock-refused (a .locked) (a .lock .now) (a .r) (a .i) (j .before .if1 .taken) e)
 
 returns-2 : tie.Need-returns-2
 returns-2 c =

@@ -41,7 +41,8 @@ check-lock-requires c κs =
     let f = c .before .before in
     let s = f .before .before .before .before .before in
     let r = f .before .record-at .result in
-    let t = record-of-passed (s .args .width .now) (wordsOf r) (s .args .i) (passed-of-done (nine s (wordsOf r)) tt tt (sym (f .check-record .ensures) ∙ ap verdictModel (c .enum-told2 .given .1))) .target-in in
+    let passed = passed-of-done (nine s (wordsOf r)) tt tt (sym (f .check-record .ensures) ∙ ap verdictModel (c .enum-told2 .given .1)) in
+    let h = record-of-passed (s .args .width .now) (wordsOf r) (s .args .i) passed .target-in in
     omega arith
 
 returns-2 : tie.Need-returns-2

@@ -26,19 +26,20 @@ unfolding recordFaults
 returns c =
     let n = c .before .before in
     let s = n .before .before in
-    ap verdictModel (c .enum-told .given .1) ∙ sym (stops (n .check-named .result) (placed (s .args .i) (named s)) (placed (s .args .i) (unfit s)) (n .check-named .ensures) _ (c .enum-told .given .1))
+    ap verdictModel (c .enum-told .given .1)
+    ∙ sym (stops (n .check-named .result) (placed (s .args .i) (named s)) (placed (s .args .i) (unfit s)) (n .check-named .ensures) _ (c .enum-told .given .1))
 
 record-fits-requires : tie.Need-record-fits-requires
 record-fits-requires c κs =
     let n = c .before .before in
     let s = n .before .before in
-    record {
-      few = s .pre;
-      passed = passed-anywhere (s .args .i) 0 (named s) (passed-of-done (placed (s .args .i) (named s)) tt tt (sym (n .check-named .ensures) ∙ ap verdictModel (c .enum-told2 .given .1)));
-    }
+    let passed = passed-of-done (placed (s .args .i) (named s)) tt tt (sym (n .check-named .ensures) ∙ ap verdictModel (c .enum-told2 .given .1)) in
+    record { few = s .pre; passed = passed-anywhere (s .args .i) 0 (named s) passed }
 
 -- check 9 decides
-last : (c : tie.After-record-fits) → let s = c .before .before .before .before .before in judged (placed (s .args .i) (recordFaults (s .args .width .now) (wordsOf (s .args .r)))) ≡ judged (placed (s .args .i) (unfit s))
+last : (c : tie.After-record-fits) →
+    let s = c .before .before .before .before .before in
+    judged (placed (s .args .i) (recordFaults (s .args .width .now) (wordsOf (s .args .r)))) ≡ judged (placed (s .args .i) (unfit s))
 unfolding recordFaults
 last c =
     let n = c .before .before .before in

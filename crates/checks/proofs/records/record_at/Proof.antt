@@ -3,6 +3,7 @@ use mathlib.Core.Path.{sym}
 use Prim.Native.Nat.{_*_}
 use native.Mathlib.Omega.{arith}
 use borrow.Author.Needs.{needs}
+use Rattle.operations.specs.Limits.{recordWords}
 use Rattle.checks.proofs.Naming.{record-words}
 use Rattle.checks.proofs.records.record_at.Statement.{statement}
 use Rattle.checks.proofs.records.record_at.Tie as tie
@@ -10,7 +11,7 @@ use Rattle.checks.proofs.records.record_at.Tie as tie
 returns : tie.Need-returns
 returns c =
     let a = c .before .before .before .before .before .args in
-    sym (record-words (a .words .now) (5 * a .i) (omega arith))
+    sym (record-words (a .words .now) (recordWords * a .i) (omega arith))
 
 pub record-at-spec : {M : Type 1} → statement M
 record-at-spec =

@@ -42,7 +42,8 @@ rule-fits-requires c κs =
       w1 .width-at .ensures .0,
       w2 .width-at2 .ensures .0,
       omega arith,
-      reads-of (s .args .r .kind) (f .known) (r .rule .result) e (length (s .args .width .now)) (c .before .index3 .result) (c .index4 .result) (λ u. let z = f .second-in u in omega arith) (λ u. let z = f .parameter-in u in omega arith),
+      reads-of (s .args .r .kind) (f .known) (r .rule .result) e (length (s .args .width .now)) (c .before .index3 .result) (c .index4 .result)
+          (λ u. let z = f .second-in u in omega arith) (λ u. let z = f .parameter-in u in omega arith),
     )
 
 returns : tie.Need-returns

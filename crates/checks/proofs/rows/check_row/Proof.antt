@@ -27,7 +27,9 @@ returns c =
     let s = f .before in
     ap verdictModel (c .enum-told .given .1) ∙ sym (stops (f .check-width .result) (width s) (rest s) (f .check-width .ensures) _ (c .enum-told .given .1))
 
-past-width : (c : tie.After-enum-told2) → let s = c .before .before .before in judged (placed (s .args .i) (rowFaults (s .args .w) (s .args .l) (s .args .m) (s .args .v))) ≡ judged (rest s)
+past-width : (c : tie.After-enum-told2) →
+    let s = c .before .before .before in
+    judged (placed (s .args .i) (rowFaults (s .args .w) (s .args .l) (s .args .m) (s .args .v))) ≡ judged (rest s)
 past-width c =
     let f = c .before .before in
     let s = f .before in

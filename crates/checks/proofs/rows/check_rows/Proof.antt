@@ -1,12 +1,12 @@
 -- `checks::rows::check_rows` meets its contract. The invariant: the verdict on all rows is that on the rows from i on. Assumes nothing.
 use mathlib.Core.Path.{_≡_, sym, ap, _∙_}
 use mathlib.Core.List.{List, []}
-use Prim.Native.Nat.{ℕ, _+_, _-_, _≤_}
+use Prim.Native.Nat.{ℕ, _-_, _≤_}
 use lib.ListN.{length, getD}
-use Rattle.checks.specs.Check.{Check, placed, rising}
+use Rattle.checks.specs.Check.{Check, placed}
 use Rattle.checks.specs.Checks.{rowFaults, rowFaultsAt, rowChecks}
 use Rattle.checks.specs.Model.{lent, verdictModel, judged}
-use Rattle.checks.proofs.VerdictParts.{goes-on, stops, rest, rest-start, rest-step, rest-end}
+use Rattle.checks.proofs.VerdictParts.{rest, rest-start, rest-end, turn-stops, turn-goes-on}
 use borrow.Author.Needs.{needs}
 use native.Mathlib.Omega.{arith}
 use Rattle.checks.proofs.rows.check_rows.Statement.{statement}
@@ -23,43 +23,51 @@ Inv-loop width lock mask value i₀ i =
 abbrev μ-loop : tie.MeasureT-loop
 μ-loop width lock mask value i₀ i = length width - i
 
+-- the checks of each row; how many rows there are
+abbrev checks : tie.Start Inv-loop μ-loop → ℕ → List Check
+checks s = faults (s .args .width .now) (s .args .lock .now) (s .args .mask .now) (s .args .value .now)
+
+abbrev count : tie.Start Inv-loop μ-loop → ℕ
+count s = length (s .args .width .now)
+
+abbrev start : tie.At-loop Inv-loop μ-loop → tie.Start Inv-loop μ-loop
+start c = c .before .before .before .before .before
+
+abbrev turn : tie.After-check-row Inv-loop μ-loop → tie.In-loop Inv-loop μ-loop
+turn c = c .before .before .before .before .before .before
+
 loop-holds : tie.Need-loop-holds Inv-loop μ-loop
-loop-holds c = let a = c .before .before .before .before .args in (omega arith, rest-start (faults (a .width .now) (a .lock .now) (a .mask .now) (a .value .now)) (length (a .width .now)))
+loop-holds c = let s = c .before .before .before .before in (omega arith, rest-start (checks s) (count s))
 
 -- what the row's own verdict says of the rows that are lent
-found : (c : tie.After-check-row Inv-loop μ-loop) →
-    let a = c .before .before .before .before .before .before .before .before .before .before .before .before .args in
-    verdictModel (c .check-row .result) ≡ judged (faults (a .width .now) (a .lock .now) (a .mask .now) (a .value .now) (c .before .before .before .before .before .before .before .loop .i))
+found : (c : tie.After-check-row Inv-loop μ-loop) → let l = turn c .before in verdictModel (c .check-row .result) ≡ judged (checks (start l) (l .loop .i))
 found c =
-    let a = c .before .before .before .before .before .before .before .before .before .before .before .before .args in
-    let i = c .before .before .before .before .before .before .before .loop .i in
-    c .check-row .ensures ∙ ap (λ (w : ℕ). judged (placed i (rowFaults w (getD (a .lock .now) i 0) (getD (a .mask .now) i 0) (getD (a .value .now) i 0)))) (c .before .before .before .before .wide .ensures)
+    let l = turn c .before in
+    let a = start l .args in
+    let i = l .loop .i in
+    c .check-row .ensures
+    ∙ ap (λ (w : ℕ). judged (placed i (rowFaults w (getD (a .lock .now) i 0) (getD (a .mask .now) i 0) (getD (a .value .now) i 0))))
+    (c .before .before .before .before .wide .ensures)
 
 returns : tie.Need-returns Inv-loop μ-loop
 returns c =
-    let h = c .before .before .before .before .before .before .before .before .loop-test .taken in
-    let l = c .before .before .before .before .before .before .before .before .before .loop in
-    let a = c .before .before .before .before .before .before .before .before .before .before .before .before .before .before .args in
-    let f = faults (a .width .now) (a .lock .now) (a .mask .now) (a .value .now) in
-    let n = length (a .width .now) in
+    let f = c .before .before in
+    let l = turn f .before in
+    let s = start l in
     ap verdictModel (c .enum-told2 .given .1)
-    ∙ sym (l .inv .1 ∙ rest-step f n (l .i) h ∙ stops (c .before .before .check-row .result) (f (l .i)) (rising f (l .i + 1) (n - (l .i + 1))) (found (c .before .before)) _ (c .enum-told2 .given .1))
+    ∙ sym (l .loop .inv .1 ∙ turn-stops (checks s) (count s) (l .loop .i) (turn f .loop-test .taken) (f .check-row .result) (found f) _ (c .enum-told2 .given .1))
 
 loop-again : tie.Need-loop-again Inv-loop μ-loop
 loop-again c =
-    let h = c .before .before .before .before .before .before .before .before .loop-test .taken in
-    let l = c .before .before .before .before .before .before .before .before .before .loop in
-    let a = c .before .before .before .before .before .before .before .before .before .before .before .before .before .before .args in
-    let f = faults (a .width .now) (a .lock .now) (a .mask .now) (a .value .now) in
-    let n = length (a .width .now) in (
+    let f = c .before .before in
+    let l = turn f .before in
+    let s = start l in (
       omega arith,
-      l .inv .1 ∙ rest-step f n (l .i) h ∙ goes-on (c .before .before .check-row .result) (f (l .i)) (rising f (l .i + 1) (n - (l .i + 1))) (found (c .before .before)) (c .enum-told .given .1),
+      l .loop .inv .1 ∙ turn-goes-on (checks s) (count s) (l .loop .i) (turn f .loop-test .taken) (f .check-row .result) (found f) (c .enum-told .given .1),
     )
 
 returns-2 : tie.Need-returns-2 Inv-loop μ-loop
-returns-2 c =
-    let a = c .before .before .before .before .before .before .args in
-    sym (c .before .loop .inv .1 ∙ rest-end (faults (a .width .now) (a .lock .now) (a .mask .now) (a .value .now)) (length (a .width .now)) (c .before .loop .i) (c .loop-test .left))
+returns-2 c = let l = c .before in sym (l .loop .inv .1 ∙ rest-end (checks (start l)) (count (start l)) (l .loop .i) (c .loop-test .left))
 
 pub check-rows-spec : {M : Type 1} → statement M
 check-rows-spec =

@@ -27,7 +27,9 @@ returns : tie.Need-returns
 returns c = c .refuse .ensures ∙ sym (hits _ _ (le-leb _ _ (over-mask _ _ _ (c .before .before .width-mask .ensures) (c .before .if1 .taken))))
 
 returns-2 : tie.Need-returns-2
-returns-2 c = let t = c .before in c .refuse2 .ensures ∙ sym (past-mask (t .before) ∙ hits _ _ (le-leb _ _ (over-mask _ _ _ (t .before .before .width-mask .ensures) (t .if2 .taken))))
+returns-2 c =
+    let t = c .before in
+    c .refuse2 .ensures ∙ sym (past-mask (t .before) ∙ hits _ _ (le-leb _ _ (over-mask _ _ _ (t .before .before .width-mask .ensures) (t .if2 .taken))))
 
 returns-3 : tie.Need-returns-3
 returns-3 c = let t = c .before in c .refuse3 .ensures ∙ sym (past-value (t .before) ∙ hits _ _ (ap not (ne-eqb _ _ (t .if3 .taken))))

@@ -36,7 +36,9 @@ rows c = c .before .before .before .before .before .before
 
 loaded : (c : tie.After-wide3) →
     let l = rows c in
-    Loaded (start l .args .width .now) (start l .args .r) (l .before .before .before .index .result) (l .before .before .index2 .result) (l .before .second-row .result) (l .condition-row .result) (c .before .before .before .before .wide .result) (c .before .before .wide2 .result) (c .wide3 .result)
+    Loaded (start l .args .width .now) (start l .args .r)
+    (l .before .before .before .index .result) (l .before .before .index2 .result) (l .before .second-row .result) (l .condition-row .result)
+    (c .before .before .before .before .wide .result) (c .before .before .wide2 .result) (c .wide3 .result)
 loaded c =
     let l = rows c in
     record {
@@ -49,7 +51,10 @@ loaded c =
       second-width = c .wide3 .ensures;
     }
 
-in-planes : (c : tie.After-wide3) → let l = rows c in let s = start l in Present (s .args .width .now) (lent s) (l .before .before .index2 .result) (l .before .second-row .result) (l .condition-row .result)
+in-planes : (c : tie.After-wide3) →
+    let l = rows c in
+    let s = start l in
+    Present (s .args .width .now) (lent s) (l .before .before .index2 .result) (l .before .second-row .result) (l .condition-row .result)
 in-planes c = let s = start (rows c) in present (s .args .width .now) (lent s) (s .args .r) (s .pre) (loaded c)
 
 apply-requires : tie.Need-apply-requires

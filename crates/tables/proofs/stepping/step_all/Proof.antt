@@ -45,7 +45,8 @@ step-requires c κs =
     let t = turn c in
     let l = t .before .loop in
     let s = start t in
-    turn-ready (s .args .width .now) (s .args .words .now) (rows s) (s .pre) (l .i) (t .loop-test .taken) (c .record-at .result) (c .record-at .ensures) (held (l .mask) (l .value)) (l .inv .3)
+    turn-ready (s .args .width .now) (s .args .words .now) (rows s) (s .pre) (l .i) (t .loop-test .taken)
+    (c .record-at .result) (c .record-at .ensures) (held (l .mask) (l .value)) (l .inv .3)
 
 loop-again : tie.Need-loop-again Inv-loop μ-loop
 loop-again c =
@@ -54,7 +55,8 @@ loop-again c =
     let t = turn r in
     let l = t .before .loop in
     let s = start t in
-    let n = turn-next (s .args .width .now) (s .args .words .now) (rows s) (s .pre) (l .i) (t .loop-test .taken) (r .record-at .result) (r .record-at .ensures) (held (l .mask) (l .value)) (l .inv .3) _ (p .step .ensures) in
+    let n = turn-next (s .args .width .now) (s .args .words .now) (rows s) (s .pre) (l .i) (t .loop-test .taken)
+    (r .record-at .result) (r .record-at .ensures) (held (l .mask) (l .value)) (l .inv .3) _ (p .step .ensures) in
     let f = at-fits (s .args .width .now) (s .args .words .now) (rows s) (s .pre) (l .i + 1) _ n in
     (f .masks-length ∙ sym (s .pre .fits .masks-length), f .values-length ∙ sym (s .pre .fits .values-length), omega arith, n)
 
