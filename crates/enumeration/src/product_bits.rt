@@ -1,5 +1,6 @@
 // Every bit of every product to width 4, through `product_bit` itself: `mul` works out few columns by it, and none at these widths.
 ghost use Prim.Native.Nat.{_≤_};
+ghost use Rattle.checks.specs.Limits.{widthLimit};
 ghost use Rattle.enumeration.specs.Sizes.{Sized};
 ghost use Rattle.vectors.specs.Row.{row, WellFormed};
 use crate::choices::Row;
@@ -33,7 +34,7 @@ fn shape(w: u32) -> Shape
 
 // Whether the answer is bit k of the row.
 fn is_bit(answer: OutputBit, right: Row, k: u64) -> bool
-    requires { ⌜ k ≤ 32 ⌝ }
+    requires { ⌜ k ≤ widthLimit ⌝ }
 {
     let unknown = bit(right.mask as u64, k);
     let value = bit(right.value as u64, k);
