@@ -1,5 +1,6 @@
 // The choices of covered operands, and the bits that they give (01, "Abstract result"), by plain enumeration.
 ghost use Prim.Native.Nat.{_^_, _≤_, _<_};
+ghost use Rattle.checks.specs.Limits.{widthLimit};
 ghost use Rattle.enumeration.specs.Sizes.{Sized};
 use crate::numbers::bit;
 use crate::numbers::power;
@@ -34,7 +35,7 @@ fn both(a: Seen, b: Seen) -> Seen {
 
 // Whether a row of width w covers x: they agree at every known bit, one by one.
 fn covers(w: u64, row: Row, x: u64) -> bool
-    requires { ⌜ w ≤ 32 ⌝ }
+    requires { ⌜ w ≤ widthLimit ⌝ }
 {
     let mask = row.mask as u64;
     let value = row.value as u64;

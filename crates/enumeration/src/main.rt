@@ -1,8 +1,10 @@
 // The executed tests: every vector pair to width 4, through the public run on real tables, against plain enumeration of all choices.
-// The output has a line for each kind, then one for the examples, then the total: the name, the tables tried, the tables that disagree.
+// The output has a line for each kind, then one for `product_bit`, one for the examples and the total: the name, the tables tried (for `product_bit` the
+// bits), those that disagree.
 use counting::joined;
 use counting::none;
 use examples::examples;
+use product_bits::product_bits;
 use report::print_kind;
 use report::print_line;
 use sweeps::sweep;
@@ -12,6 +14,7 @@ mod counting; // counting.rt: tables tried and tables that disagree
 mod examples; // examples.rt: worked examples
 mod numbers; // numbers.rt: powers of two, bits and products
 mod plain; // plain.rt: each kind on plain numbers
+mod product_bits; // product_bits.rt: every bit of every product
 mod report; // report.rt: the lines of the output
 mod shapes; // shapes.rt: kinds, widths and parameters that fit together
 mod sweeps; // sweeps.rt: all tables of a kind
@@ -27,9 +30,12 @@ fn main() {
         total = joined(total, tally);
         kind += 1;
     }
+    let bits = product_bits();
+    io::write_all(1, b"product_bit");
+    print_line(bits);
     let shown = examples();
     io::write_all(1, b"examples");
     print_line(shown);
     io::write_all(1, b"total");
-    print_line(joined(total, shown));
+    print_line(joined(total, joined(bits, shown)));
 }

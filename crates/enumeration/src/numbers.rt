@@ -1,10 +1,11 @@
 // Powers of two, bits and products of plain numbers.
 ghost use mathlib.Core.Path.{_≡_};
 ghost use Prim.Native.Nat.{_^_, _≤_, _<_};
+ghost use Rattle.checks.specs.Limits.{widthLimit};
 
 // 2^k.
 pub fn power(k: u64) -> u64
-    requires { ⌜ k ≤ 32 ⌝ }
+    requires { ⌜ k ≤ widthLimit ⌝ }
     ensures { λ r. ⌜ (r ≡ 2 ^ k) × (1 ≤ r) × (r ≤ 4294967296) ⌝ }
 {
     1u64 << k
@@ -12,7 +13,7 @@ pub fn power(k: u64) -> u64
 
 // Bit k of a number.
 pub fn bit(x: u64, k: u64) -> u64
-    requires { ⌜ k ≤ 32 ⌝ }
+    requires { ⌜ k ≤ widthLimit ⌝ }
 {
     x / power(k) % 2
 }

@@ -1,5 +1,7 @@
 // Each kind on plain numbers (01, "Points and plain runs").
 ghost use Prim.Native.Nat.{_^_, _≤_, _<_};
+ghost use Rattle.checks.specs.Limits.{widthLimit};
+ghost use Rattle.operations.specs.Limits.{parameterLimit};
 ghost use Rattle.enumeration.specs.Sizes.{Sized};
 use crate::numbers::bit;
 use crate::numbers::least;
@@ -10,7 +12,7 @@ use crate::shapes::Shape;
 
 // The number of n bits whose bit k is bit min(k + p, w - 1) of a.
 fn copied(n: u64, w: u64, p: u64, a: u64) -> u64
-    requires { ⌜ (n ≤ 32) × (1 ≤ w) × (w ≤ 32) × (p ≤ 31) ⌝ }
+    requires { ⌜ (n ≤ widthLimit) × (1 ≤ w) × (w ≤ widthLimit) × (p ≤ parameterLimit) ⌝ }
 {
     let mut r: u64 = 0;
     let mut k: u64 = 0;
@@ -23,7 +25,7 @@ fn copied(n: u64, w: u64, p: u64, a: u64) -> u64
 
 // The number whose bit (k + p) modulo w is bit k of a.
 fn rotated(w: u64, p: u64, a: u64) -> u64
-    requires { ⌜ (1 ≤ w) × (w ≤ 32) × (p ≤ 31) ⌝ }
+    requires { ⌜ (1 ≤ w) × (w ≤ widthLimit) × (p ≤ parameterLimit) ⌝ }
 {
     let mut r: u64 = 0;
     let mut k: u64 = 0;
@@ -36,7 +38,7 @@ fn rotated(w: u64, p: u64, a: u64) -> u64
 
 // a once 2^w is taken from it where its top bit is 1, and then 2^w more, so that it is not negative.
 fn signed(w: u64, a: u64) -> u64
-    requires { ⌜ (1 ≤ w) × (w ≤ 32) × (a < 4294967296) ⌝ }
+    requires { ⌜ (1 ≤ w) × (w ≤ widthLimit) × (a < 4294967296) ⌝ }
 {
     if bit(a, w - 1) == 1 {
         return a;

@@ -1,5 +1,8 @@
 // All tables of a kind: every width, parameter and vector.
+ghost use mathlib.Core.Bool.{true};
+ghost use mathlib.Core.Path.{_≡_};
 ghost use Prim.Native.Nat.{_≤_, _<_};
+ghost use Rattle.vectors.specs.Row.{row, WellFormed};
 ghost use Rattle.enumeration.specs.Sizes.{Sized};
 use crate::choices::Row;
 use crate::counting::Tally;
@@ -15,7 +18,7 @@ use crate::shapes::uses_second;
 use crate::trials::agrees;
 
 // How many pairs of numbers below 2^w there are: 4^w. One where the row is not used.
-fn pairs(used: bool, w: u64) -> u64
+pub fn pairs(used: bool, w: u64) -> u64
     requires { ⌜ w ≤ 4 ⌝ }
     ensures { λ r. ⌜ r ≤ 4294967296 ⌝ }
 {
@@ -26,7 +29,7 @@ fn pairs(used: bool, w: u64) -> u64
 }
 
 // Pair n of two numbers below 2^w, as a mask and a value.
-fn pair(w: u64, n: u64) -> Row
+pub fn pair(w: u64, n: u64) -> Row
     requires { ⌜ w ≤ 4 ⌝ }
 {
     let low = power(w);
@@ -36,9 +39,19 @@ fn pair(w: u64, n: u64) -> Row
     }
 }
 
-// Whether mask and value share no set bit.
-fn well_formed(row: Row) -> bool {
-    row.mask & row.value == 0
+// Whether mask and value are those of a vector of width w: no bit at or above it, and no set bit shared.
+pub fn well_formed(w: u64, v: Row) -> bool
+    requires { ⌜ w ≤ 4 ⌝ }
+    ensures { λ r. ⌜ (r ≡ true → WellFormed (row w (v .mask) (v .value))) ⌝ }
+{
+    let end = power(w);
+    if v.mask as u64 >= end {
+        return false;
+    }
+    if v.value as u64 >= end {
+        return false;
+    }
+    v.mask & v.value == 0
 }
 
 // Every condition, where the kind uses one.
@@ -50,7 +63,7 @@ fn each_condition(s: Shape, a: Row, b: Row) -> Tally
     let mut n: u64 = 0;
     while n < end {
         let c = pair(1, n);
-        if well_formed(c) {
+        if well_formed(1, c) {
             tally = joined(tally, one(agrees(s, a, b, c)));
         }
         n += 1;
@@ -68,7 +81,7 @@ fn each_second(s: Shape, a: Row) -> Tally
     let mut n: u64 = 0;
     while n < end {
         let b = pair(s.wb, n);
-        if well_formed(b) {
+        if well_formed(s.wb, b) {
             tally = joined(tally, each_condition(s, a, b));
         }
         n += 1;
@@ -86,7 +99,7 @@ fn each_first(s: Shape) -> Tally
     let mut n: u64 = 0;
     while n < end {
         let a = pair(s.wa, n);
-        if well_formed(a) {
+        if well_formed(s.wa, a) {
             tally = joined(tally, each_second(s, a));
         }
         n += 1;

@@ -5,10 +5,10 @@ use Rattle.enumeration.proofs.main.Statement.{statement}
 use Rattle.enumeration.proofs.main.Tie as tie
 
 abbrev Inv-loop : tie.InvT-loop
-Inv-loop total₀ kind₀ t5 t6 total kind = kind ≤ 21
+Inv-loop total₀ kind₀ t6 t7 t8 total kind = kind ≤ 21
 
 abbrev μ-loop : tie.MeasureT-loop
-μ-loop total₀ kind₀ t5 t6 total kind = 21 - kind
+μ-loop total₀ kind₀ t6 t7 t8 total kind = 21 - kind
 
 pub main-spec : {M : Type 1} → statement M
 main-spec =
@@ -29,7 +29,12 @@ main-spec =
     (λ c. search needs)
     (λ c κs. search needs)
     (λ c κs. search needs)
+    (λ c κs. search needs)
     (λ c. search needs)
+    (λ c κs. search needs)
+    (λ c κs. search needs)
+    (λ c. search needs)
+    (λ c κs. search needs)
     (λ c κs. search needs)
     (λ c κs. search needs)
     (λ c κs. search needs)

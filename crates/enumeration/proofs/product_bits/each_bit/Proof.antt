@@ -1,0 +1,37 @@
+-- `enumeration::product_bits::each_bit` is safe and ends. The bits below k are tried, and k is at most the width. Assumes nothing.
+use Prim.Native.Nat.{_≤_, _-_}
+use native.Mathlib.Omega.{arith}
+use borrow.Author.Needs.{needs}
+use Rattle.enumeration.proofs.product_bits.each_bit.Statement.{statement}
+use Rattle.enumeration.proofs.product_bits.each_bit.Tie as tie
+
+abbrev Inv-loop : tie.InvT-loop
+Inv-loop w a b right tally₀ k₀ tally k = k ≤ w
+
+abbrev μ-loop : tie.MeasureT-loop
+μ-loop w a b right tally₀ k₀ tally k = w - k
+
+product-bit-requires : tie.Need-product-bit-requires Inv-loop μ-loop
+product-bit-requires c κs =
+    let s = c .before .before .before .before .before in
+    record { width = s .args .w; most = omega arith; below = omega arith; first = s .pre .2; second = s .pre .3 }
+
+pub each-bit-spec : {M : Type 1} → statement M
+each-bit-spec =
+    tie.close
+    (tie.spec
+    Inv-loop
+    μ-loop
+    (λ c κs. search needs)
+    (λ c κs. search needs)
+    (λ c κs. search needs)
+    (λ c. search needs)
+    product-bit-requires
+    (λ c. search needs)
+    (λ c κs. search needs)
+    (λ c κs. search needs)
+    (λ c κs. search needs)
+    (λ c. search needs)
+    (λ c. search needs)
+    (λ c. search needs)
+    (λ c. search needs))

@@ -1,0 +1,33 @@
+-- `enumeration::product_bits::each_first` is safe and ends. The pairs below n are tried, and n is at most their number. Assumes nothing.
+use Prim.Native.Nat.{_≤_, _-_}
+use native.Mathlib.Omega.{arith}
+use borrow.Author.Needs.{needs}
+use Rattle.enumeration.proofs.product_bits.each_first.Statement.{statement}
+use Rattle.enumeration.proofs.product_bits.each_first.Tie as tie
+
+abbrev Inv-loop : tie.InvT-loop
+Inv-loop w end tally₀ n₀ tally n = n ≤ end
+
+abbrev μ-loop : tie.MeasureT-loop
+μ-loop w end tally₀ n₀ tally n = end - n
+
+each-second-requires : tie.Need-each-second-requires Inv-loop μ-loop
+each-second-requires c κs = (omega arith, omega arith, c .before .well-formed .ensures (c .if1 .taken))
+
+pub each-first-spec : {M : Type 1} → statement M
+each-first-spec =
+    tie.close
+    (tie.spec
+    Inv-loop
+    μ-loop
+    (λ c κs. search needs)
+    (λ c κs. search needs)
+    (λ c. search needs)
+    (λ c κs. search needs)
+    (λ c κs. search needs)
+    each-second-requires
+    (λ c κs. search needs)
+    (λ c. search needs)
+    (λ c. search needs)
+    (λ c. search needs)
+    (λ c. search needs))

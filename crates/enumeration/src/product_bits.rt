@@ -1,0 +1,106 @@
+// Every bit of every product to width 4, through `product_bit` itself: `mul` works out few columns by it, and none at these widths.
+ghost use Prim.Native.Nat.{_≤_};
+ghost use Rattle.checks.specs.Limits.{widthLimit};
+ghost use Rattle.enumeration.specs.Sizes.{Sized};
+ghost use Rattle.vectors.specs.Row.{row, WellFormed};
+use crate::choices::Row;
+use crate::choices::enumerated;
+use crate::counting::Tally;
+use crate::counting::joined;
+use crate::counting::none;
+use crate::counting::one;
+use crate::numbers::bit;
+use crate::shapes::Shape;
+use crate::sweeps::pair;
+use crate::sweeps::pairs;
+use crate::sweeps::well_formed;
+use products::product_bit;
+use vectors::OutputBit;
+
+// mul at width w.
+fn shape(w: u32) -> Shape
+    requires { ⌜ (1 ≤ w) × (w ≤ 4) ⌝ }
+    ensures { λ r. ⌜ Sized (r .wt) (r .wa) (r .wb) (r .p) ⌝ }
+{
+    let width = w as u64;
+    Shape {
+        kind: 16,
+        wt: width,
+        wa: width,
+        wb: width,
+        p: 0,
+    }
+}
+
+// Whether the answer is bit k of the row.
+fn is_bit(answer: OutputBit, right: Row, k: u64) -> bool
+    requires { ⌜ k ≤ widthLimit ⌝ }
+{
+    let unknown = bit(right.mask as u64, k);
+    let value = bit(right.value as u64, k);
+    match answer {
+        OutputBit::Zero => unknown == 0 && value == 0,
+        OutputBit::One => unknown == 0 && value == 1,
+        OutputBit::Unknown => unknown == 1,
+    }
+}
+
+// Every bit of the product of two vectors.
+fn each_bit(w: u32, a: Row, b: Row) -> Tally
+    requires { ⌜ (1 ≤ w) × (w ≤ 4) × WellFormed (row w (a .mask) (a .value)) × WellFormed (row w (b .mask) (b .value)) ⌝ }
+{
+    let right = enumerated(shape(w), a, b, Row { mask: 0, value: 0 });
+    let mut tally = none();
+    let mut k: u32 = 0;
+    while k < w {
+        let answer = product_bit(a.mask, a.value, b.mask, b.value, k);
+        tally = joined(tally, one(is_bit(answer, right, k as u64)));
+        k += 1;
+    }
+    tally
+}
+
+// Every second factor.
+fn each_second(w: u32, a: Row) -> Tally
+    requires { ⌜ (1 ≤ w) × (w ≤ 4) × WellFormed (row w (a .mask) (a .value)) ⌝ }
+{
+    let end = pairs(true, w as u64);
+    let mut tally = none();
+    let mut n: u64 = 0;
+    while n < end {
+        let b = pair(w as u64, n);
+        if well_formed(w as u64, b) {
+            tally = joined(tally, each_bit(w, a, b));
+        }
+        n += 1;
+    }
+    tally
+}
+
+// Every first factor.
+fn each_first(w: u32) -> Tally
+    requires { ⌜ (1 ≤ w) × (w ≤ 4) ⌝ }
+{
+    let end = pairs(true, w as u64);
+    let mut tally = none();
+    let mut n: u64 = 0;
+    while n < end {
+        let a = pair(w as u64, n);
+        if well_formed(w as u64, a) {
+            tally = joined(tally, each_second(w, a));
+        }
+        n += 1;
+    }
+    tally
+}
+
+// Every width.
+pub fn product_bits() -> Tally {
+    let mut tally = none();
+    let mut w: u32 = 1;
+    while w <= 4 {
+        tally = joined(tally, each_first(w));
+        w += 1;
+    }
+    tally
+}
