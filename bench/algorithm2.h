@@ -1,4 +1,4 @@
-// What the kernels are measured against. Every function stands in another translation unit than its callers and is not
+// The algorithms of document 002 that the kernels are measured against. Every function stands in another translation unit than its callers and is not
 // inlined, so that a call is a call. A width is 1 to 32, and vectors are well formed.
 #ifndef ALGORITHM2_H
 #define ALGORITHM2_H
@@ -10,15 +10,5 @@
 
 // Document 002, section 6: the sum bit by bit.
 [[gnu::noinline]] Planes add_by_bits(uint32_t w, uint32_t ma, uint32_t va, uint32_t mb, uint32_t vb);
-
-struct Sums {
-    uint32_t least, greatest;
-};
-
-// The least that an add needs: the wrapping sums of the least and of the greatest operands.
-[[gnu::noinline]] Sums two_sums(uint32_t ma, uint32_t va, uint32_t mb, uint32_t vb);
-
-// The product of known operands.
-[[gnu::noinline]] Planes plain_product(uint32_t w, uint32_t a, uint32_t b);
 
 #endif

@@ -1,4 +1,4 @@
-// Random vectors, timing and medians.
+// Random vectors and timing.
 #ifndef MEASURE_H
 #define MEASURE_H
 
@@ -7,12 +7,13 @@
 #include <cstddef>
 #include <ctime>
 #include <functional>
+#include <limits>
 #include <random>
 #include <vector>
 
 constexpr uint32_t SEED = 20211115;
-constexpr int REPETITIONS = 21;
-constexpr double SHORTEST = 1e6; // a timing takes at least so many nanoseconds
+constexpr int REPETITIONS = 41;
+constexpr double SHORTEST = 5e5; // a timing takes at least so many nanoseconds
 
 // One contestant's work, done once.
 using Pass = std::function<void()>;
@@ -55,27 +56,18 @@ inline unsigned passes_for_timing(const Pass &pass)
     return passes;
 }
 
-inline double median(std::vector<double> samples)
-{
-    auto middle = samples.begin() + static_cast<std::ptrdiff_t>(samples.size() / 2);
-    std::nth_element(samples.begin(), middle, samples.end());
-    return *middle;
-}
-
-// For each contestant the median time of one pass, in nanoseconds. They take turns, so that a drift of the machine hits all.
+// For each contestant the least time of one pass, in nanoseconds: other work on the machine only ever adds to a time. They take
+// turns, so that a drift of the machine hits all.
 inline std::vector<double> measure(const std::vector<Pass> &contestants)
 {
     std::vector<unsigned> passes;
     for (const Pass &pass : contestants)
         passes.push_back(passes_for_timing(pass));
-    std::vector<std::vector<double>> samples(contestants.size());
+    std::vector<double> least(contestants.size(), std::numeric_limits<double>::infinity());
     for (int r = 0; r < REPETITIONS; r++)
         for (std::size_t c = 0; c < contestants.size(); c++)
-            samples[c].push_back(time_of(contestants[c], passes[c]) / passes[c]);
-    std::vector<double> medians;
-    for (const std::vector<double> &s : samples)
-        medians.push_back(median(s));
-    return medians;
+            least[c] = std::min(least[c], time_of(contestants[c], passes[c]) / passes[c]);
+    return least;
 }
 
 #endif

@@ -2,9 +2,10 @@
 pub mod ProductMask
 pub mod Marked
 pub mod Untouched
-pub mod Between
 pub mod Ends
+pub mod Between
 pub mod Parts
 pub mod EveryChoice
 pub mod LowBits
 pub mod Taken
+pub mod Ones

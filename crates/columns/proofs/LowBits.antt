@@ -1,10 +1,10 @@
 -- The columns below c of a product's best result are those of the operands' lowest c bits: unknown bits from c on are left out. Assumes nothing.
 --   lowest c m    the bits of m below c
 --   low-columns   the law
---   low-open      .. for a word of columns
+--   low-settled   .. for a word of columns
 use mathlib.Core.Path.{_≡_, sym, ap, subst, _∙_}
 use mathlib.Core.Logic.{inl, inr}
-use Prim.Native.Nat.{ℕ, _-_, _*_, _%_, _^_, _<_, min}
+use Prim.Native.Nat.{ℕ, _-_, _*_, _%_, _^_, _<_}
 use native.Mathlib.Nat.{mod-lt, mul-comm, mod-one, add-zero, lt-of-le-of-lt}
 use native.Mathlib.Decide.{decLt}
 use native.Mathlib.Omega.{arith}
@@ -14,10 +14,11 @@ use Rattle.bits.specs.Bit.{bit}
 use Rattle.bits.proofs.Bits.{bit-lt, bit-cases, bit-and, bit-or, bit-ext}
 use Rattle.bits.proofs.Constants.{bit-ones, bit-ones-above}
 use Rattle.bits.proofs.Shifts.{bit-mod, bit-same-low}
+use Rattle.bits.proofs.Words.{or-cases}
 use Rattle.vectors.specs.Row.{row, WellFormed, Covers}
 use Rattle.vectors.proofs.Rows.{covers-part, covered-part}
 use Rattle.columns.specs.Formed.{Formed}
-use Rattle.columns.specs.Settled.{productOf, UnknownExactly}
+use Rattle.columns.specs.Settled.{productOf, UnknownExactly, SettledIn}
 use Rattle.columns.proofs.ProductMask.{known-bit, product-steady}
 use Rattle.columns.proofs.Untouched.{lifted}
 
@@ -81,42 +82,34 @@ module _ (w c ma va mb vb : ℕ) (F : Formed w ma va mb vb) where
   pub low-both : Formed w (lowest c ma) va (lowest c mb) vb
   low-both = record { most = F .most; first = low-formed w c ma va (F .first); second = low-formed w c mb vb (F .second) }
 
+  -- an unknown column of theirs is unknown
+  low-unknown : (k : ℕ) → k < w → bit (productOf w (lowest c ma) va (lowest c mb) vb .mask) k ≡ 1 → bit (productOf w ma va mb vb .mask) k ≡ 1
+  low-unknown k h e = elim (bit-cases (productOf w ma va mb vb .mask) k) [
+    | inr f ↦ f
+    | inl f ↦
+        let z = product-steady w (lowest c ma) va (lowest c mb) vb k h _ (λ a b ca cb.
+        known-bit w ma va mb vb k h f a b (low-covers w c ma va (F .first) a ca) (low-covers w c mb vb (F .second) b cb)) in
+        absurd (omega arith)
+  ]
+
   pub low-columns : (k : ℕ) → k < c → k < w
       → bit (productOf w ma va mb vb .mask) k ≡ bit (productOf w (lowest c ma) va (lowest c mb) vb .mask) k
   low-columns k l h = elim (bit-cases (productOf w (lowest c ma) va (lowest c mb) vb .mask) k) [
     | inl e ↦ product-steady w ma va mb vb k h _ (λ a b ca cb.
         same-product c a (part w c ma va (F .first) a) b (part w c mb vb (F .second) b) (same-low w c ma va (F .first) a ca) (same-low w c mb vb (F .second) b cb) k l
         ∙ known-bit w (lowest c ma) va (lowest c mb) vb k h e _ _ (covers-low w c ma va (F .first) a) (covers-low w c mb vb (F .second) b)) ∙ sym e
-    | inr e ↦ elim (bit-cases (productOf w ma va mb vb .mask) k) [
-      | inr f ↦ f ∙ sym e
-      | inl f ↦
-          let z = product-steady w (lowest c ma) va (lowest c mb) vb k h _ (λ a b ca cb.
-          known-bit w ma va mb vb k h f a b (low-covers w c ma va (F .first) a ca) (low-covers w c mb vb (F .second) b cb)) in
-          absurd (omega arith)
-    ]
+    | inr e ↦ low-unknown k h e ∙ sym e
   ]
 
 -- r has the unknown columns of the cut operands
-pub low-open : (w c ma va mb vb unsettled low r : ℕ) → Formed w ma va mb vb → unsettled < 2 ^ w → low ≡ 2 ^ c - 1 → UnknownExactly (bitAnd ma low) va (bitAnd mb low) vb r
-    → bitAnd (bitAnd unsettled low) r ≡ bitAnd (bitAnd unsettled low) (productOf w ma va mb vb .mask)
-low-open w c ma va mb vb unsettled low r F h e U =
-    bit-ext w (bitAnd below r) (bitAnd below m) (part r) (part m) (λ k l. bit-and below r k ∙ elim (decLt k c) [
-      | yes i ↦ ap (min (bit below k)) (sym (low-columns w c ma va mb vb F k i l ∙ cut w (low-both w c ma va mb vb F) k l))
-      | no i ↦
-          let x = ap (λ (n : ℕ). bit n k) e ∙ bit-ones-above c k (omega arith) in
-          let y = bit-and unsettled low k in
-          let z : bit below k ≡ 0 = omega arith in
-          omega arith
-    ] ∙ sym (bit-and below m k))
+pub low-settled : (c ma va mb vb low r : ℕ) → low ≡ 2 ^ c - 1 → UnknownExactly (bitAnd ma low) va (bitAnd mb low) vb r → SettledIn ma va mb vb r (bitOr r low)
+low-settled c ma va mb vb low r e U w F k f h = elim (or-cases r low k f) [
+  | inl g ↦ low-unknown w c ma va mb vb F k h (exact k h ∙ g) ∙ sym g
+  | inr g ↦ low-columns w c ma va mb vb F k (below k g) h ∙ exact k h
+]
   where
-    below : ℕ
-    below = bitAnd unsettled low
+    exact : (k : ℕ) → k < w → bit (productOf w (lowest c ma) va (lowest c mb) vb .mask) k ≡ bit r k
+    exact k h = subst (λ (x : ℕ). UnknownExactly (bitAnd ma x) va (bitAnd mb x) vb r) e U w (low-both w c ma va mb vb F) k h
 
-    m : ℕ
-    m = productOf w ma va mb vb .mask
-
-    part : (n : ℕ) → bitAnd (bitAnd unsettled low) n < 2 ^ w
-    part n = lt-of-le-of-lt (and-le-l (bitAnd unsettled low) n) (lt-of-le-of-lt (and-le-l unsettled low) h)
-
-    cut : UnknownExactly (lowest c ma) va (lowest c mb) vb r
-    cut = subst (λ (x : ℕ). UnknownExactly (bitAnd ma x) va (bitAnd mb x) vb r) e U
+    below : (k : ℕ) → bit low k ≡ 1 → k < c
+    below k g = elim (decLt k c) [ yes l ↦ l | no l ↦ let z = ap (λ (n : ℕ). bit n k) e ∙ bit-ones-above c k (omega arith) in absurd (omega arith) ]

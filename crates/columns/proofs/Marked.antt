@@ -1,13 +1,12 @@
 -- A column in which two covered products differ is unknown. Assumes nothing.
 --   marks-or, unknown-or                            the columns that two words mark
---   covered-value, covered-mask, covered-and        the value alone, with all unknown bits set, with those that are also in c
+--   covered-value, covered-and                      the value alone, with the unknown bits set that are also in c
 --   difference-set, difference-clear                what a bit of a difference tells
 --   witness                                         a word of differences marks witnessed columns
 --   witnessed                                       a word of witnessed columns marks unknown ones
 use mathlib.Core.Path.{_≡_, sym, ap, _∙_}
 use mathlib.Core.Logic.{_⊎_, inl, inr, _≢_}
 use Prim.Native.Nat.{ℕ, _+_, _*_, _%_, _^_, _<_}
-use native.Mathlib.Nat.{le-refl}
 use native.Mathlib.Omega.{arith}
 use lib.Bits.{bitAnd, bitOr, differ}
 use Rattle.bits.specs.Bit.{bit}
@@ -32,9 +31,6 @@ unknown-or ma va mb vb m n p q w F = marks-or (λ k. ColumnIs w ma va mb vb k 1)
 
 pub covered-value : (m v : ℕ) → Covered m v v
 covered-value m v w F = covers-value (row w m v) F
-
-pub covered-mask : (m v : ℕ) → Covered m v (bitOr v m)
-covered-mask m v w F = covers-part (row w m v) m F (λ k. le-refl (bit m k))
 
 pub covered-and : (m v c : ℕ) → Covered m v (bitOr v (bitAnd m c))
 covered-and m v c w F = covers-part (row w m v) (bitAnd m c) F (λ k. let e = bit-and m c k in omega arith)

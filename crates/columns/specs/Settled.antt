@@ -8,6 +8,7 @@
 --   KnownBelow ma va mb vb n       every column below n is known
 --   KnownFrom ma va mb vb n        every column from n on is known
 --   UnknownExactly ma va mb vb n   a column is set in n exactly where it is unknown
+--   SettledIn ma va mb vb n m      the same for the columns that are set in m
 use mathlib.Core.Path.{_≡_}
 use mathlib.Core.List.{[], _∷_}
 use Prim.Native.Nat.{ℕ, _≤_, _<_}
@@ -40,3 +41,6 @@ KnownFrom ma va mb vb n = (w : ℕ) → Formed w ma va mb vb → (k : ℕ) → n
 
 abbrev pub UnknownExactly : ℕ → ℕ → ℕ → ℕ → ℕ → Type 0
 UnknownExactly ma va mb vb n = (w : ℕ) → Formed w ma va mb vb → (k : ℕ) → ColumnIs w ma va mb vb k (bit n k)
+
+abbrev pub SettledIn : ℕ → ℕ → ℕ → ℕ → ℕ → ℕ → Type 0
+SettledIn ma va mb vb n m = (w : ℕ) → Formed w ma va mb vb → Marks (λ k. ColumnIs w ma va mb vb k (bit n k)) m

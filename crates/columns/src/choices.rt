@@ -1,10 +1,15 @@
 // Every choice of the unknown bits of both operands, where they are few.
 ghost use mathlib.Core.Path.{_≡_};
+ghost use Prim.Native.Nat.{_-_};
+ghost use lib.Count.{onesIn};
 ghost use Rattle.columns.specs.Settled.{UnknownExactly};
-ghost use Rattle.columns.specs.Choices.{differenceAt};
+ghost use Rattle.columns.specs.Choices.{differenceAt, exhaustiveLimit};
 use crate::WORD_MODULUS;
 use crate::product;
 use crate::witnesses::differing;
+
+// So many unknown bits, in both operands together, are tried in every choice.
+const EXHAUSTIVE_LIMIT: u32 = 4;
 
 // The columns in which the choice s of unknown bits, those of the first operand in the low half, differs from the plain product.
 fn chosen(plain: u32, va: u32, vb: u32, s: u64) -> u32
@@ -31,4 +36,17 @@ pub fn by_every_choice(ma: u32, va: u32, mb: u32, vb: u32) -> u32
         s = (s - 1) & unknown;
     }
     found
+}
+
+// x without its lowest EXHAUSTIVE_LIMIT ones: 0 where it has no more of them.
+pub fn without_lowest(x: u64) -> u64
+    ensures { λ r. ⌜ onesIn 64 r ≡ onesIn 64 x - exhaustiveLimit ⌝ }
+{
+    let mut rest = x;
+    let mut cleared: u32 = 0;
+    while cleared < EXHAUSTIVE_LIMIT {
+        rest = rest & std::num::wrapping_sub_u64(rest, 1);
+        cleared = cleared + 1;
+    }
+    rest
 }

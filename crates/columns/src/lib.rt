@@ -2,12 +2,13 @@
 // covered products differ, and known where no unknown bit can change it (01, "Abstract result").
 ghost use mathlib.Core.Path.{_≡_};
 ghost use Prim.Native.Nat.{_-_, _*_, _%_, _^_, min};
+ghost use lib.Count.{trailingZeros};
 ghost use Rattle.columns.specs.Settled.{AllKnown};
 
 pub mod choices; // choices.rt: every choice of the unknown bits, where they are few
 pub mod low; // low.rt: the columns that few unknown bits reach
-mod reach; // reach.rt: the columns that no unknown bit reaches
-pub mod witnesses; // witnesses.rt: sixteen choices
+mod reach; // reach.rt: the end of the columns that unknown bits reach
+pub mod witnesses; // witnesses.rt: nine choices
 
 // 2^32.
 const WORD_MODULUS: u64 = 4294967296;
@@ -36,12 +37,24 @@ pub fn ones_below(n: u32) -> u32
     (1u32 << n) - 1
 }
 
-// Columns that are known whatever the unknown bits are: those below every unknown bit's reach, and those above the bits in which the
-// least and the greatest exact product differ.
-pub fn known_columns(ma: u32, va: u32, mb: u32, vb: u32) -> u32
+// The ones below the lowest set bit of x: all 32 where there is none.
+pub fn below_lowest(x: u32) -> u32
+    ensures { λ r. ⌜ r ≡ 2 ^ trailingZeros 32 x - 1 ⌝ }
+{
+    std::num::wrapping_sub_u32(x, 1) & !x
+}
+
+// Columns that are known whatever the unknown bits are: those below every unknown bit's reach. Bit i of one operand adds to no column below i + j,
+// where j is the lowest bit that the other can have, and a product has as many trailing zeros as both factors together.
+pub fn known_low(ma: u32, va: u32, mb: u32, vb: u32) -> u32
     ensures { λ r. ⌜ AllKnown ma va mb vb r ⌝ }
 {
-    let low = ones_below(reach::first_reached(ma, va, mb, vb));
-    let high = ones_below(reach::end_reached(ma, va, mb, vb));
-    low | !high
+    below_lowest(product(ma, mb | vb) | product(mb, ma | va))
+}
+
+// And those above the bits in which the least and the greatest exact product differ.
+pub fn known_high(ma: u32, va: u32, mb: u32, vb: u32) -> u32
+    ensures { λ r. ⌜ AllKnown ma va mb vb r ⌝ }
+{
+    !ones_below(reach::end_reached(ma, va, mb, vb))
 }

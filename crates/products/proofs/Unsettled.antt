@@ -1,13 +1,14 @@
 -- The unknown columns put together from those that plain products settle and those that are worked out. Assumes nothing.
 --   Worked m u found rest   of the columns in u, those in rest are left; found has the unknown ones of the others, m being the product's mask
 --   granted-word, granted-part, granted-below   what `unknown_among` takes for granted of each column in u
---   low-or-worked           .. from those below a cut and the others
+--   known-left              .. with known columns left out
+--   settled-or-left         .. from those that the choices below a cut settle, and the others
 --   settled-or-worked       the unknown columns, from both
 --   known-operands          no column is unknown if no bit of an operand is
 use mathlib.Core.Path.{_≡_, sym, ap, ap₂, _∙_}
 use mathlib.Core.Logic.{_≢_, inl, inr}
 use Prim.Native.Nat.{ℕ, zero, suc, _-_, _*_, _^_, _≤_, _<_, min, max}
-use native.Mathlib.Nat.{one-mul, lt-of-le-of-lt}
+use native.Mathlib.Nat.{one-mul, le-refl}
 use native.Mathlib.Decide.{decLt, ℕ-discrete}
 use native.Mathlib.Omega.{arith}
 use lib.Bits.{bitAnd, bitOr, or-lt, and-le-l, and-lt}
@@ -21,7 +22,7 @@ use Rattle.bits.proofs.LowestBit.{lowest, clear-at, clear-other}
 use Rattle.vectors.specs.Row.{row}
 use Rattle.vectors.proofs.BestLaws.{known-covers}
 use Rattle.columns.specs.Formed.{Formed}
-use Rattle.columns.specs.Settled.{productOf, Marks, AllUnknown, AllKnown}
+use Rattle.columns.specs.Settled.{productOf, Marks, AllUnknown, AllKnown, SettledIn}
 use Rattle.columns.proofs.ProductMask.{product-steady}
 use Rattle.columns.proofs.Parts.{Part}
 use Rattle.products.specs.Granted.{Granted}
@@ -102,30 +103,56 @@ module _ (ma va mb vb : ℕ) where
         below = elim (decLt k w) [ yes l ↦ l | no l ↦ absurd (omega (arith, bit-above w n k h (omega arith))) ];
       }
 
--- ---- the columns below a cut and the others
+-- ---- the columns that the choices below a cut settle, and the others
 
-module _ (w u low m : ℕ) (o : w ≤ 32) (h : u < 2 ^ w) (hl : low < 2 ^ 32) where
-  either-part : (k : ℕ) → max (min (min (bit u k) (bit low k)) (bit m k)) (min (min (bit u k) (1 - bit low k)) (bit m k)) ≡ min (bit u k) (bit m k)
-  either-part k = elim (bit-cases low k) [
-    | inl x ↦ let z = bit-lt u k in both 0 (bit u k) (omega arith) (omega arith) ∙ omega arith
-    | inr x ↦ let z = bit-lt u k in both (bit u k) 0 (omega arith) (omega arith) ∙ omega arith
-  ]
+module _ (w ma va mb vb u : ℕ) (F : Formed w ma va mb vb) (h : u < 2 ^ w) where
+  abbrev m : ℕ
+  m = productOf w ma va mb vb .mask
+
+  part : (x y : ℕ) → x ≤ u → bitAnd x y < 2 ^ w
+  part x y l = let i = and-le-l x y in omega arith
+
+  -- known columns left out
+  pub known-left : (n r : ℕ) → n < 2 ^ 32 → AllKnown ma va mb vb n → r ≡ bitAnd (bitAnd u (2 ^ 32 - 1 - n)) m → r ≡ bitAnd u m
+  known-left n r hn B e =
+      let o = F .most in
+      e ∙ bit-ext w (bitAnd (bitAnd u (2 ^ 32 - 1 - n)) m) (bitAnd u m) (part (bitAnd u (2 ^ 32 - 1 - n)) m (and-le-l u (2 ^ 32 - 1 - n))) (part u m (le-refl u)) (λ k l.
+      bit-and (bitAnd u (2 ^ 32 - 1 - n)) m k ∙ ap (λ (x : ℕ). min x (bit m k)) (bit-clear 32 u n k hn (omega arith)) ∙ at k l ∙ sym (bit-and u m k))
     where
-      both : (x y : ℕ) → min (bit u k) (bit low k) ≡ x → min (bit u k) (1 - bit low k) ≡ y
-          → max (min (min (bit u k) (bit low k)) (bit m k)) (min (min (bit u k) (1 - bit low k)) (bit m k)) ≡ max (min x (bit m k)) (min y (bit m k))
-      both x y f g = ap₂ (λ (s t : ℕ). max (min s (bit m k)) (min t (bit m k))) f g
+      at : (k : ℕ) → k < w → min (min (bit u k) (1 - bit n k)) (bit m k) ≡ min (bit u k) (bit m k)
+      at k l = elim (bit-cases n k) [
+        | inl x ↦ let y = bit-lt u k in let z : min (bit u k) (1 - bit n k) ≡ bit u k = omega arith in ap (λ (i : ℕ). min i (bit m k)) z
+        | inr x ↦ let z = B w F k x l in ap (min (min (bit u k) (1 - bit n k))) z ∙ none (min (bit u k) (1 - bit n k)) ∙ sym (none (bit u k)) ∙ ap (min (bit u k)) (sym z)
+      ]
+        where
+          none : (i : ℕ) → min i 0 ≡ 0
+          none i = omega arith
 
-  pub low-or-worked : (l r : ℕ) → l ≡ bitAnd (bitAnd u low) m → r ≡ bitAnd (bitAnd u (2 ^ 32 - 1 - low)) m → bitOr l r ≡ bitAnd u m
-  low-or-worked l r e f =
-      bit-ext w (bitOr l r) (bitAnd u m) (or-lt w l r (omega (arith, part low)) (omega (arith, part (2 ^ 32 - 1 - low)))) (lt-of-le-of-lt (and-le-l u m) h) (λ k i.
-      bit-or l r k
-      ∙ ap₂ max (ap (λ (n : ℕ). bit n k) e ∙ bit-and (bitAnd u low) m k ∙ ap (λ (x : ℕ). min x (bit m k)) (bit-and u low k))
-      (ap (λ (n : ℕ). bit n k) f ∙ bit-and (bitAnd u (2 ^ 32 - 1 - low)) m k ∙ ap (λ (x : ℕ). min x (bit m k)) (bit-clear 32 u low k hl (omega arith)))
-      ∙ either-part k
+  pub settled-or-left : (s n r : ℕ) → s < 2 ^ 32 → n < 2 ^ 32 → SettledIn ma va mb vb s (bitOr s n) → r ≡ bitAnd (bitAnd u (2 ^ 32 - 1 - bitOr s n)) m
+      → bitOr (bitAnd u s) r ≡ bitAnd u m
+  settled-or-left s n r hs hn S e =
+      let o = F .most in
+      bit-ext w (bitOr (bitAnd u s) r) (bitAnd u m) (or-lt w (bitAnd u s) r (part u s (le-refl u)) (omega (arith, part (bitAnd u rest) m (and-le-l u rest)))) (part u m (le-refl u)) (λ k l.
+      bit-or (bitAnd u s) r k
+      ∙ ap₂ max (bit-and u s k) (ap (λ (x : ℕ). bit x k) e ∙ bit-and (bitAnd u rest) m k ∙ ap (λ (x : ℕ). min x (bit m k)) (bit-clear 32 u (bitOr s n) k (or-lt 32 s n hs hn) (omega arith)))
+      ∙ at k l
       ∙ sym (bit-and u m k))
     where
-      part : (x : ℕ) → bitAnd (bitAnd u x) m < 2 ^ w
-      part x = lt-of-le-of-lt (and-le-l (bitAnd u x) m) (lt-of-le-of-lt (and-le-l u x) h)
+      rest : ℕ
+      rest = 2 ^ 32 - 1 - bitOr s n
+
+      at : (k : ℕ) → k < w → max (min (bit u k) (bit s k)) (min (min (bit u k) (1 - bit (bitOr s n) k)) (bit m k)) ≡ min (bit u k) (bit m k)
+      at k l = elim (bit-cases (bitOr s n) k) [
+        | inl x ↦
+            let y = bit-lt u k in
+            let a : min (bit u k) (bit s k) ≡ 0 = omega (arith, bit-or s n k) in
+            let b : min (bit u k) (1 - bit (bitOr s n) k) ≡ bit u k = omega arith in
+            ap₂ (λ (i j : ℕ). max i (min j (bit m k))) a b ∙ omega arith
+        | inr x ↦
+            let z = S w F k x l in
+            let b : min (bit u k) (1 - bit (bitOr s n) k) ≡ 0 = omega arith in
+            ap₂ (λ (i j : ℕ). max (min (bit u k) i) (min j (bit m k))) (sym z) b ∙ omega arith
+      ]
 
 -- ---- what is settled and what is not
 

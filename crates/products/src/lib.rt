@@ -17,10 +17,11 @@ use bits::FourWords;
 use bits::reverse_words;
 use bits::width_mask;
 use columns::choices::by_every_choice;
-use columns::known_columns;
-use columns::low::cut;
+use columns::choices::without_lowest;
+use columns::known_high;
+use columns::known_low;
+use columns::low::below_cut;
 use columns::low::unknown_low;
-use columns::ones_below;
 use columns::product;
 use columns::witnesses::unknown_columns;
 use factors::extreme_factors;
@@ -32,9 +33,6 @@ use vectors::Vector;
 
 mod column_sums; // column_sums.rt: column sums, held as i64
 mod factors; // factors.rt: the factors at which the column sum is least and greatest
-
-// So many unknown bits, in both operands together, are tried in every choice.
-const EXHAUSTIVE_LIMIT: u32 = 5;
 
 // Bit k of the product, with the operands' reversed words. Two pairs of column k unknown on both sides make the bit unknown; a lone one has its
 // bits set first.
@@ -98,25 +96,31 @@ fn unknown_among(unsettled: u32, ma: u32, va: u32, mb: u32, vb: u32) -> u32
     found
 }
 
-// The same, with those below the cut settled together, by the few unknown bits there. Where none or all of them stand below it, one way is enough:
-// so the routine for one column is called at two places, and stays a function of its own beside the rest.
+// The same, with the columns left out that are known above the bits in which the products differ.
+fn unknown_left(unsettled: u32, ma: u32, va: u32, mb: u32, vb: u32) -> u32
+    requires { ⌜ Marks (Granted ma va mb vb) unsettled ⌝ }
+    ensures { λ r. ⌜ ((w : ℕ) → Formed w ma va mb vb → unsettled < 2 ^ w → r ≡ bitAnd unsettled (productOf w ma va mb vb .mask)) ⌝ }
+{
+    let left = unsettled & !known_high(ma, va, mb, vb);
+    unknown_among(left, ma, va, mb, vb)
+}
+
+// The same. Every choice of the few unknown bits below the cut settles the columns below it, and shows some of the others to be unknown. Where no
+// column below it is open they are not tried: so `unknown_left` is called at two places, and stays a function of its own beside the rest.
 fn unknown_open(unsettled: u32, ma: u32, va: u32, mb: u32, vb: u32) -> u32
     requires { ⌜ Marks (Granted ma va mb vb) unsettled ⌝ }
     ensures { λ r. ⌜ ((w : ℕ) → Formed w ma va mb vb → unsettled < 2 ^ w → r ≡ bitAnd unsettled (productOf w ma va mb vb .mask)) ⌝ }
 {
-    if unsettled == 0 {
-        return 0;
-    }
-    let low = ones_below(cut(ma, mb));
+    let low = below_cut(ma, mb);
     if unsettled & low == 0 {
-        return unknown_among(unsettled, ma, va, mb, vb);
+        return unknown_left(unsettled, ma, va, mb, vb);
     }
-    let found = unknown_low(unsettled, low, ma, va, mb, vb);
-    let rest = unsettled & !low;
+    let found = unknown_low(low, ma, va, mb, vb);
+    let rest = unsettled & !(found | low);
     if rest == 0 {
-        return found;
+        return unsettled & found;
     }
-    found | unknown_among(rest, ma, va, mb, vb)
+    (unsettled & found) | unknown_left(rest, ma, va, mb, vb)
 }
 
 // The columns below the width that are unknown. Few unknown bits are tried in every choice; else the columns that plain products do not settle
@@ -125,11 +129,14 @@ fn unknown_below(w: u32, ma: u32, va: u32, mb: u32, vb: u32) -> u32
     requires { ⌜ (1 ≤ w) × Formed w ma va mb vb ⌝ }
     ensures { λ r. ⌜ ((k : ℕ) → k < w → bit r k ≡ bit (productOf w ma va mb vb .mask) k) ⌝ }
 {
-    if u64::count_ones((ma as u64) | ((mb as u64) << 32)) <= EXHAUSTIVE_LIMIT {
+    if without_lowest((ma as u64) | ((mb as u64) << 32)) == 0 {
         return by_every_choice(ma, va, mb, vb);
     }
     let seen = unknown_columns(ma, va, mb, vb);
-    let unsettled = !(seen | known_columns(ma, va, mb, vb)) & width_mask(w);
+    let unsettled = !(seen | known_low(ma, va, mb, vb)) & width_mask(w);
+    if unsettled == 0 {
+        return seen;
+    }
     seen | unknown_open(unsettled, ma, va, mb, vb)
 }
 

@@ -1,0 +1,86 @@
+// Calls of operations on pairs of vectors with so many unknown bits each.
+#ifndef CALLS_H
+#define CALLS_H
+
+#include "measure.h"
+#include <cstdio>
+#include <string>
+
+// The archive kernel_calls.
+extern "C" {
+Planes kernel_mul(uint32_t w, uint32_t ma, uint32_t va, uint32_t mb, uint32_t vb);
+Planes kernel_add(uint32_t w, uint32_t ma, uint32_t va, uint32_t mb, uint32_t vb);
+}
+
+inline constexpr uint32_t WIDTH = 32;
+inline constexpr std::size_t PAIRS = 4096;
+
+using Operation = Planes(uint32_t w, uint32_t ma, uint32_t va, uint32_t mb, uint32_t vb);
+
+struct Pair {
+    Planes a, b;
+};
+
+// Pairs of operands; the first has so many unknown bits, the second so many.
+struct Inputs {
+    unsigned first, second;
+    std::vector<Pair> pairs;
+};
+
+inline std::string name_of(const Inputs &inputs)
+{
+    std::string name = std::to_string(inputs.first);
+    return inputs.first == inputs.second ? name : name + " and " + std::to_string(inputs.second);
+}
+
+inline std::vector<Inputs> draw_inputs()
+{
+    constexpr unsigned counts[][2] = {{0, 0}, {1, 1}, {2, 2}, {2, 3}, {3, 3}, {4, 4}, {5, 5}, {6, 6}, {8, 8}, {16, 16}, {32, 32}};
+    std::mt19937 random(SEED);
+    std::vector<Inputs> all;
+    for (auto [first, second] : counts) {
+        Inputs inputs = {first, second, {}};
+        for (std::size_t i = 0; i < PAIRS; i++) {
+            Planes a = draw_vector(random, WIDTH, first);
+            inputs.pairs.push_back({a, draw_vector(random, WIDTH, second)});
+        }
+        all.push_back(inputs);
+    }
+    return all;
+}
+
+inline Planes apply(Operation *operation, const Pair &p)
+{
+    return operation(WIDTH, p.a.mask, p.a.value, p.b.mask, p.b.value);
+}
+
+// Whether two operations agree on all inputs; says where they first do not.
+inline bool agree(const char *names, Operation *f, Operation *g, const Inputs &inputs)
+{
+    for (const Pair &p : inputs.pairs) {
+        Planes x = apply(f, p), y = apply(g, p);
+        if (x.mask == y.mask && x.value == y.value)
+            continue;
+        std::printf("%s differ (masks and values): a %08x %08x, b %08x %08x: %08x %08x and %08x %08x\n", names, p.a.mask,
+                    p.a.value, p.b.mask, p.b.value, x.mask, x.value, y.mask, y.value);
+        return false;
+    }
+    return true;
+}
+
+inline volatile uint32_t sink;
+
+// A call for every pair. The operation is known when this is compiled, so that no call goes through a pointer.
+template <Operation *operation> Pass pass(const Inputs &inputs)
+{
+    return [&inputs] {
+        uint32_t sum = 0;
+        for (const Pair &p : inputs.pairs) {
+            Planes r = apply(operation, p);
+            sum += r.mask + r.value;
+        }
+        sink = sink + sum;
+    };
+}
+
+#endif

@@ -1,0 +1,133 @@
+// Random tables that every check passes, and runs of them.
+#ifndef TABLES_H
+#define TABLES_H
+
+#include "measure.h"
+#include "rifflerleek.h"
+#include <cstdio>
+#include <cstdlib>
+#include <cstring>
+
+inline constexpr uint32_t RECORDS = 1024, KINDS = 21, UNKNOWN = 4;
+
+// Rows of one width: the first half are locked inputs, the others are open.
+struct Group {
+    uint32_t width, first, count;
+};
+
+using Groups = std::vector<Group>;
+
+// A kind's record: the widths of its rows, 0 where it has no such row, and how many numbers its parameter may be.
+struct Shape {
+    uint32_t kind, t, a, b, p, numbers;
+};
+
+// What a table is made of. Where records are chained they read open rows too, so what others wrote, else inputs alone.
+struct Plan {
+    const char *name;
+    const Groups &groups;
+    bool chained;
+    uint32_t first_kind, kinds;
+};
+
+struct Table {
+    std::vector<uint8_t> width, lock;
+    std::vector<uint32_t> mask, value, words;
+};
+
+// By kind.
+inline constexpr Shape shapes[KINDS] = {
+    {RIFFLERLEEK_COPY, 32, 32, 0, 0, 0},     {RIFFLERLEEK_NOT, 32, 32, 0, 0, 0},     {RIFFLERLEEK_AND, 32, 32, 32, 0, 0},
+    {RIFFLERLEEK_OR, 32, 32, 32, 0, 0},      {RIFFLERLEEK_XOR, 32, 32, 32, 0, 0},    {RIFFLERLEEK_SHL, 32, 32, 0, 0, 32},
+    {RIFFLERLEEK_LSHR, 32, 32, 0, 0, 32},    {RIFFLERLEEK_ASHR, 32, 32, 0, 0, 32},   {RIFFLERLEEK_ROTL, 32, 32, 0, 0, 32},
+    {RIFFLERLEEK_EXTRACT, 16, 32, 0, 0, 17}, {RIFFLERLEEK_CONCAT, 32, 16, 16, 0, 0}, {RIFFLERLEEK_ZEXT, 32, 16, 0, 0, 0},
+    {RIFFLERLEEK_SEXT, 32, 16, 0, 0, 0},     {RIFFLERLEEK_ADD, 32, 32, 32, 0, 0},    {RIFFLERLEEK_SUB, 32, 32, 32, 0, 0},
+    {RIFFLERLEEK_NEG, 32, 32, 0, 0, 0},      {RIFFLERLEEK_MUL, 32, 32, 32, 0, 0},    {RIFFLERLEEK_EQ, 1, 32, 32, 0, 0},
+    {RIFFLERLEEK_ULT, 1, 32, 32, 0, 0},      {RIFFLERLEEK_SLT, 1, 32, 32, 0, 0},     {RIFFLERLEEK_ITE, 32, 32, 32, 1, 0},
+};
+
+inline const Groups one_width = {{32, 0, 64}};
+inline const Groups three_widths = {{32, 0, 40}, {16, 40, 12}, {1, 52, 12}};
+
+inline const Plan plans[] = {
+    {"every kind, mixed", three_widths, true, 0, KINDS},
+    {"add", one_width, false, RIFFLERLEEK_ADD, 1},
+    {"mul", one_width, false, RIFFLERLEEK_MUL, 1},
+};
+
+inline const Group &group_of(const Plan &plan, uint32_t width)
+{
+    return *std::find_if(plan.groups.begin(), plan.groups.end(), [width](const Group &g) { return g.width == width; });
+}
+
+inline void draw_rows(std::mt19937 &random, const Group &g, Table &t)
+{
+    for (uint32_t i = 0; i < g.count; i++) {
+        Planes row = draw_vector(random, g.width, std::min(g.width, UNKNOWN));
+        t.width.push_back(static_cast<uint8_t>(g.width));
+        t.lock.push_back(i < g.count / 2);
+        t.mask.push_back(row.mask);
+        t.value.push_back(row.value);
+    }
+}
+
+inline uint32_t draw_target(std::mt19937 &random, const Plan &plan, uint32_t width)
+{
+    const Group &g = group_of(plan, width);
+    return g.first + g.count / 2 + below(random, g.count / 2);
+}
+
+// A row to read; 0 where the width is 0 and so there is none.
+inline uint32_t draw_operand(std::mt19937 &random, const Plan &plan, uint32_t width)
+{
+    if (width == 0)
+        return 0;
+    const Group &g = group_of(plan, width);
+    return g.first + below(random, plan.chained ? g.count : g.count / 2);
+}
+
+inline void draw_record(std::mt19937 &random, const Plan &plan, Table &t)
+{
+    const Shape &s = shapes[plan.first_kind + below(random, plan.kinds)];
+    uint32_t target = draw_target(random, plan, s.t);
+    uint32_t a = draw_operand(random, plan, s.a);
+    uint32_t b = draw_operand(random, plan, s.b);
+    uint32_t p = s.numbers > 0 ? below(random, s.numbers) : draw_operand(random, plan, s.p);
+    t.words.insert(t.words.end(), {s.kind, target, a, b, p});
+}
+
+inline Table draw_table(std::mt19937 &random, const Plan &plan)
+{
+    Table t;
+    for (const Group &g : plan.groups)
+        draw_rows(random, g, t);
+    for (uint32_t r = 0; r < RECORDS; r++)
+        draw_record(random, plan, t);
+    return t;
+}
+
+using Run = decltype(rifflerleek_run);
+
+// Runs the records before last; a refusal ends the program.
+inline void run_records(Run *run, Table &t, std::size_t last)
+{
+    std::size_t rows = t.width.size();
+    rifflerleek_answer a = run(t.width.data(), rows, t.lock.data(), rows, t.mask.data(), rows, t.value.data(), rows,
+                               t.words.data(), t.words.size(), 0, last);
+    if (a.refusal != RIFFLERLEEK_DONE) {
+        std::printf("run: refusal %u\n", a.refusal);
+        std::exit(1);
+    }
+}
+
+// A run from the start rows, which are copied into the table first.
+inline Pass pass_from(Run *run, Table &t, const Table &start, std::size_t last)
+{
+    return [run, &t, &start, last] {
+        std::memcpy(t.mask.data(), start.mask.data(), t.mask.size() * sizeof t.mask[0]);
+        std::memcpy(t.value.data(), start.value.data(), t.value.size() * sizeof t.value[0]);
+        run_records(run, t, last);
+    };
+}
+
+#endif
