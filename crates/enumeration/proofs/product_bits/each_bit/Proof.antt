@@ -14,7 +14,7 @@ abbrev μ-loop : tie.MeasureT-loop
 product-bit-requires : tie.Need-product-bit-requires Inv-loop μ-loop
 product-bit-requires c κs =
     let s = c .before .before .before .before .before in
-    record { width = s .args .w; most = omega arith; below = omega arith; first = s .pre .2; second = s .pre .3 }
+    record { width = s .args .w; formed = record { most = omega arith; first = s .pre .2; second = s .pre .3 }; below = omega arith }
 
 pub each-bit-spec : {M : Type 1} → statement M
 each-bit-spec =
