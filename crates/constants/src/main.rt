@@ -74,7 +74,7 @@ fn print_limits() {
     print_line(b"record_limit", limits::RECORD_LIMIT);
     print_line(b"record_words", RECORD_WORDS);
     print_line(b"width_limit", limits::WIDTH_LIMIT as usize);
-    print_line(b"parameter_limit", limits::PARAMETER_LIMIT);
+    print_line(b"parameter_limit", limits::PARAMETER_LIMIT as usize);
     print_line(b"text_limit", TEXT_LIMIT);
     print_line(b"number_limit", NUMBER_LIMIT as usize);
     print_line(b"row_bytes", ROW_BYTES);

@@ -1,6 +1,6 @@
 // The choices of covered operands, and the bits that they give (01, "Abstract result"), by plain enumeration.
 ghost use Prim.Native.Nat.{_^_, _≤_, _<_};
-ghost use Rattle.checks.specs.Limits.{widthLimit};
+ghost use Rattle.bits.specs.Limits.{widthLimit};
 ghost use Rattle.enumeration.specs.Sizes.{Sized};
 use crate::numbers::bit;
 use crate::numbers::power;

@@ -1,7 +1,7 @@
 // Powers of two, bits and products of plain numbers.
 ghost use mathlib.Core.Path.{_≡_};
 ghost use Prim.Native.Nat.{_^_, _≤_, _<_};
-ghost use Rattle.checks.specs.Limits.{widthLimit};
+ghost use Rattle.bits.specs.Limits.{widthLimit};
 
 // 2^k.
 pub fn power(k: u64) -> u64

@@ -1,6 +1,6 @@
 // Each kind on plain numbers (01, "Points and plain runs").
 ghost use Prim.Native.Nat.{_^_, _≤_, _<_};
-ghost use Rattle.checks.specs.Limits.{widthLimit};
+ghost use Rattle.bits.specs.Limits.{widthLimit};
 ghost use Rattle.operations.specs.Limits.{parameterLimit};
 ghost use Rattle.enumeration.specs.Sizes.{Sized};
 use crate::numbers::bit;

@@ -1,6 +1,6 @@
 // Every bit of every product to width 4, through `product_bit` itself: `mul` works out few columns by it, and none at these widths.
 ghost use Prim.Native.Nat.{_≤_};
-ghost use Rattle.checks.specs.Limits.{widthLimit};
+ghost use Rattle.bits.specs.Limits.{widthLimit};
 ghost use Rattle.enumeration.specs.Sizes.{Sized};
 ghost use Rattle.vectors.specs.Row.{row, WellFormed};
 use crate::choices::Row;

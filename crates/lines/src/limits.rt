@@ -1,5 +1,5 @@
 // Numbers that 01 sets.
 
-pub(crate) const WIDTH_LIMIT: usize = 32;
+pub(crate) const WIDTH_LIMIT: usize = checks::limits::WIDTH_LIMIT as usize;
 
 pub const NUMBER_LIMIT: u32 = 999;
