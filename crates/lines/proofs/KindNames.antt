@@ -1,7 +1,8 @@
 -- The search for a name. Assumes nothing.
 --   named              what a list of kinds says of a name
 --   kind-here, kind-later, kind-none   the ways out of the search
-use mathlib.Core.Path.{_≡_, refl, sym, ap, _∙_}
+--   all-kinds          the first of all kinds, as many as there are
+use mathlib.Core.Path.{_≡_, sym, ap, _∙_}
 use mathlib.Core.Bool.{Bool, true, false, cond, _&&_, _||_}
 use mathlib.Core.List.{List, _∷_}
 use mathlib.Core.Option.{Option, some, none}
@@ -10,7 +11,7 @@ use native.Mathlib.Numerals.{add-one}
 use native.Mathlib.Omega.{arith}
 use lib.Dec.{T, eqb, eqb→eq}
 use lib.ListN.{length, getD, take, drop, drop-of-length-le}
-use lib.Seq.{drop-cons, getD-take, length-take-le}
+use lib.Seq.{drop-cons, getD-take, length-take-le, take-all}
 use Rattle.bits.specs.Below.{allBelow}
 use Rattle.bits.proofs.Bools.{T-left, T-right}
 use Rattle.operations.specs.Kind.{Kind}
@@ -71,7 +72,7 @@ module _ (f : List ℕ) (n k : ℕ) (most : n ≤ kindCount) where
   pub kind-none : n ≤ k → named f (drop k ks) ≡ none
   kind-none h = ap (named f) (drop-of-length-le ks {i = k} (omega (arith, length-ks)))
 
--- the first of all kinds are all kinds
-pub all-kinds : take 21 kinds ≡ kinds
-unfolding kinds
-all-kinds = refl
+-- as many as there are, are all
+pub all-kinds : (n : ℕ) → kindCount ≡ n → take n kinds ≡ kinds
+unfolding kindCount
+all-kinds n e = take-all n kinds (omega arith)

@@ -138,11 +138,12 @@ pub fn put_record(out: &mut [u8], at: usize, r: Record) -> usize
     requires { ⌜ T (isKind (r .kind)) × Holds (now out) at (lineText (recordLine (wordsOf r))) ⌝ }
     ensures { λ end. ⌜ Put (now (out .entry)) (now (out .exit)) at end (lineText (recordLine (wordsOf r))) ⌝ }
 {
+    let Record { kind, t, a, b, p } = r;
     let x = put_word(out, at, b"op\t");
-    let y = put_name(out, x, r.kind as usize);
-    let z = put_next(out, y, r.t as usize);
-    let u = put_next(out, z, r.a as usize);
-    let v = put_next(out, u, r.b as usize);
-    let w = put_next(out, v, r.p as usize);
+    let y = put_name(out, x, kind as usize);
+    let z = put_next(out, y, t as usize);
+    let u = put_next(out, z, a as usize);
+    let v = put_next(out, u, b as usize);
+    let w = put_next(out, v, p as usize);
     put_byte(out, w, LF)
 }

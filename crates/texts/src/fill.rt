@@ -85,8 +85,8 @@ pub(crate) fn fill_rows(
 ) -> usize
     requires { ⌜ RowsWait (editionModel e) (now text) n (now width) (now lock) (now mask) (now value) ⌝ }
     ensures { λ r.
-        let rows = RowsRead (editionModel e) (now (text .entry)) r (now (width .entry)) (now (width .exit)) (now (lock .entry)) (now (lock .exit)) in
-        ⌜ rows (now (mask .entry)) (now (mask .exit)) (now (value .entry)) (now (value .exit)) ⌝ }
+        ⌜ RowsRead (editionModel e) (now (text .entry)) r (now (width .entry)) (now (width .exit)) (now (lock .entry)) (now (lock .exit))
+        (now (mask .entry)) (now (mask .exit)) (now (value .entry)) (now (value .exit)) ⌝ }
 {
     let mut at: usize = 0;
     let mut k: usize = 0;

@@ -14,7 +14,7 @@ kind-among-requires c κs = omega (arith, count-is)
 returns : tie.Need-returns
 returns c =
     let a = c .before .before .args in
-    c .kind-among .ensures ∙ ap (named (a .f .now)) all-kinds ∙ ap (λ (x : Edition). named (a .f .now) (x .operations)) (sym (only (a .e)))
+    c .kind-among .ensures ∙ ap (named (a .f .now)) (all-kinds _ count-is) ∙ ap (λ (x : Edition). named (a .f .now) (x .operations)) (sym (only (a .e)))
 
 pub kind-of-spec : {M : Type 1} → statement M
 kind-of-spec = tie.close (tie.spec kind-among-requires returns)
