@@ -1,11 +1,14 @@
 // Two archives of the library in one program, on the same tables: before_run is rifflerleek_run of the older one. Fails if the
 // rows that they leave differ.
-#include "markdown.h"
+#include "goals.h"
 #include "tables.h"
 
 extern "C" Run before_run;
 
 namespace {
+
+constexpr Goal mixed_goal = {"a run of the mixed table at most 0.8 of its time before", 0.8, false};
+constexpr Goal add_goal = {"a run of the add records at most 0.75 of its time before", 0.75, false};
 
 // Whether both leave the same rows.
 bool agree(const Table &start)
@@ -16,29 +19,36 @@ bool agree(const Table &start)
     return before.mask == after.mask && before.value == after.value;
 }
 
-// Nanoseconds a record of both, and their ratio, of a run of the records before last.
-Line compared(const char *name, const Table &start, std::size_t last)
+// The line of a table's run or of its checks alone, from the times before and after.
+Line line_of(const char *name, const char *work, const double *times)
 {
-    Table t = start;
-    std::vector<double> times = measure({pass_from(before_run, t, start, last), pass_from(rifflerleek_run, t, start, last)});
-    return {name, last > 0 ? "run" : "checks alone", figure(times[0] / RECORDS), figure(times[1] / RECORDS), figure(times[1] / times[0])};
+    return {name, work, figure(times[0] / RECORDS), figure(times[1] / RECORDS), figure(times[1] / times[0])};
 }
 
 } // namespace
 
 int main()
 {
-    std::mt19937 random(SEED);
-    std::vector<Line> lines = {{"table", "work", "before, ns a record", "after, ns a record", "after / before"}};
-    for (const Plan &plan : plans) {
-        Table start = draw_table(random, plan);
-        if (!agree(start)) {
-            std::printf("%s: the two archives leave different rows\n", plan.name);
+    std::vector<Table> starts = draw_tables(), tables = starts;
+    std::vector<Pass> contestants;
+    for (std::size_t i = 0; i < starts.size(); i++) {
+        if (!agree(starts[i])) {
+            std::printf("%s: the two archives leave different rows\n", plans[i].name);
             return 1;
         }
-        lines.push_back(compared(plan.name, start, RECORDS));
-        lines.push_back(compared(plan.name, start, 0));
+        for (std::size_t last : {std::size_t{RECORDS}, std::size_t{0}})
+            for (Run *run : {before_run, rifflerleek_run})
+                contestants.push_back(pass_from(run, tables[i], starts[i], last));
+    }
+    std::vector<double> times = measure(contestants);
+    std::vector<Line> lines = {{"table", "work", "before, ns a record", "after, ns a record", "after / before"}};
+    for (std::size_t i = 0; i < starts.size(); i++) {
+        lines.push_back(line_of(plans[i].name, "run", &times[4 * i]));
+        lines.push_back(line_of(plans[i].name, "checks alone", &times[4 * i + 2]));
     }
     print_markdown(lines);
+    std::printf("\n");
+    print_verdict(mixed_goal, {{plans[MIXED].name, times[4 * MIXED + 1] / times[4 * MIXED]}});
+    print_verdict(add_goal, {{plans[ADD].name, times[4 * ADD + 1] / times[4 * ADD]}});
     return 0;
 }

@@ -21,7 +21,7 @@ struct Pair {
     Planes a, b;
 };
 
-// Pairs of operands; the first has so many unknown bits, the second so many.
+// Pairs of operands. The first has so many unknown bits, the second so many, which are not fewer.
 struct Inputs {
     unsigned first, second;
     std::vector<Pair> pairs;

@@ -6,10 +6,9 @@
 
 namespace {
 
-// The nanoseconds of one call of each, in the order in which they take turns.
+// The nanoseconds of one call of each.
 struct Figures {
-    unsigned fewest, most; // unknown bits of an operand
-    std::string name;
+    const Inputs &inputs;
     double algorithm2, mul, by_bits, add;
 };
 
@@ -32,14 +31,19 @@ bool all_agree(const Inputs &inputs)
     return products && sums;
 }
 
-Figures measure_calls(const Inputs &inputs)
+std::vector<Figures> measure_calls(const std::vector<Inputs> &all)
 {
-    std::vector<double> times =
-        measure({pass<algorithm2>(inputs), pass<kernel_mul>(inputs), pass<add_by_bits>(inputs), pass<kernel_add>(inputs)});
-    for (double &time : times)
-        time /= PAIRS;
-    return {std::min(inputs.first, inputs.second), std::max(inputs.first, inputs.second), name_of(inputs),
-            times[0], times[1], times[2], times[3]};
+    std::vector<Pass> contestants;
+    for (const Inputs &i : all)
+        contestants.insert(contestants.end(),
+                           {pass<algorithm2>(i), pass<kernel_mul>(i), pass<add_by_bits>(i), pass<kernel_add>(i)});
+    std::vector<double> times = measure(contestants);
+    std::vector<Figures> figures;
+    for (std::size_t i = 0; i < all.size(); i++) {
+        const double *t = &times[4 * i];
+        figures.push_back({all[i], t[0] / PAIRS, t[1] / PAIRS, t[2] / PAIRS, t[3] / PAIRS});
+    }
+    return figures;
 }
 
 void print_figures(const std::vector<Figures> &all)
@@ -47,7 +51,7 @@ void print_figures(const std::vector<Figures> &all)
     std::vector<Line> lines = {{"unknown bits", "algorithm 2", "kernel_mul", "algorithm 2 / kernel_mul", "add by bits",
                                 "kernel_add", "add by bits / kernel_add"}};
     for (const Figures &f : all)
-        lines.push_back({f.name, figure(f.algorithm2), figure(f.mul), figure(f.algorithm2 / f.mul), figure(f.by_bits),
+        lines.push_back({name_of(f.inputs), figure(f.algorithm2), figure(f.mul), figure(f.algorithm2 / f.mul), figure(f.by_bits),
                          figure(f.add), figure(f.by_bits / f.add)});
     print_markdown(lines);
 }
@@ -56,8 +60,8 @@ std::vector<Ratio> judged(const MulGoal &goal, const std::vector<Figures> &all)
 {
     std::vector<Ratio> ratios;
     for (const Figures &f : all)
-        if (goal.from <= f.fewest && f.most <= goal.to)
-            ratios.push_back({"unknown bits " + f.name, f.algorithm2 / f.mul});
+        if (goal.from <= f.inputs.first && f.inputs.second <= goal.to)
+            ratios.push_back({"unknown bits " + name_of(f.inputs), f.algorithm2 / f.mul});
     return ratios;
 }
 
@@ -71,9 +75,7 @@ int main()
         agreed = all_agree(i) && agreed;
     if (!agreed)
         return 1;
-    std::vector<Figures> figures;
-    for (const Inputs &i : inputs)
-        figures.push_back(measure_calls(i));
+    std::vector<Figures> figures = measure_calls(inputs);
     print_figures(figures);
     std::printf("\n");
     for (const MulGoal &goal : goals)

@@ -49,6 +49,9 @@ inline constexpr Shape shapes[KINDS] = {
 inline const Groups one_width = {{32, 0, 64}};
 inline const Groups three_widths = {{32, 0, 40}, {16, 40, 12}, {1, 52, 12}};
 
+// Two of the plans by number.
+enum { MIXED, ADD };
+
 inline const Plan plans[] = {
     {"every kind, mixed", three_widths, true, 0, KINDS},
     {"add", one_width, false, RIFFLERLEEK_ADD, 1},
@@ -104,6 +107,16 @@ inline Table draw_table(std::mt19937 &random, const Plan &plan)
     for (uint32_t r = 0; r < RECORDS; r++)
         draw_record(random, plan, t);
     return t;
+}
+
+// One table for each plan.
+inline std::vector<Table> draw_tables()
+{
+    std::mt19937 random(SEED);
+    std::vector<Table> tables;
+    for (const Plan &plan : plans)
+        tables.push_back(draw_table(random, plan));
+    return tables;
 }
 
 using Run = decltype(rifflerleek_run);

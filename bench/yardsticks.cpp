@@ -23,13 +23,15 @@ Planes product(uint32_t w, uint32_t, uint32_t va, uint32_t, uint32_t vb)
     return plain_product(w, va, vb);
 }
 
-// Adds a line to the table, and answers its ratio.
-Ratio add_line(std::vector<Line> &lines, const Inputs &inputs, const char *kernel, const char *plain,
-               const std::vector<double> &times)
+// The table's line of a kernel and its yardstick.
+Line line_of(const char *kernel, const char *plain, const Inputs &inputs, const double *times)
 {
-    double ratio = times[0] / times[1];
-    lines.push_back({kernel, plain, name_of(inputs), figure(times[0] / PAIRS), figure(times[1] / PAIRS), figure(ratio)});
-    return {"unknown bits " + name_of(inputs), ratio};
+    return {kernel, plain, name_of(inputs), figure(times[0] / PAIRS), figure(times[1] / PAIRS), figure(times[0] / times[1])};
+}
+
+Ratio ratio_of(const Inputs &inputs, const double *times)
+{
+    return {"unknown bits " + name_of(inputs), times[0] / times[1]};
 }
 
 } // namespace
@@ -40,15 +42,20 @@ int main()
     const Inputs &known = inputs.front();
     if (!agree("plain product and kernel_mul", product, kernel_mul, known))
         return 1;
-    std::vector<Line> lines = {{"kernel", "plain", "unknown bits", "kernel, ns", "plain, ns", "kernel / plain"}};
-    Ratio product_ratio =
-        add_line(lines, known, "kernel_mul", "product", measure({pass<kernel_mul>(known), pass<product>(known)}));
-    std::vector<Ratio> sum_ratios;
+    std::vector<Pass> contestants = {pass<kernel_mul>(known), pass<product>(known)};
     for (const Inputs &i : inputs)
-        sum_ratios.push_back(add_line(lines, i, "kernel_add", "two sums", measure({pass<kernel_add>(i), pass<sums>(i)})));
+        contestants.insert(contestants.end(), {pass<kernel_add>(i), pass<sums>(i)});
+    std::vector<double> times = measure(contestants);
+    std::vector<Line> lines = {{"kernel", "plain", "unknown bits", "kernel, ns", "plain, ns", "kernel / plain"},
+                               line_of("kernel_mul", "product", known, &times[0])};
+    std::vector<Ratio> ratios;
+    for (std::size_t i = 0; i < inputs.size(); i++) {
+        lines.push_back(line_of("kernel_add", "two sums", inputs[i], &times[2 + 2 * i]));
+        ratios.push_back(ratio_of(inputs[i], &times[2 + 2 * i]));
+    }
     print_markdown(lines);
     std::printf("\n");
-    print_verdict(known_goal, {product_ratio});
-    print_verdict(add_goal, sum_ratios);
+    print_verdict(known_goal, {ratio_of(known, &times[0])});
+    print_verdict(add_goal, ratios);
     return 0;
 }

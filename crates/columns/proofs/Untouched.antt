@@ -124,7 +124,9 @@ untouched ma va mb vb r p q w F k l h = product-steady w ma va mb vb k h (bit (v
 -- the products cut to a word, and the lowest bit that one of them has
 pub untouched-word : (ma va mb vb x y : ℕ) → x ≡ ma * bitOr mb vb % 2 ^ 32 → y ≡ mb * bitOr ma va % 2 ^ 32
     → KnownBelow ma va mb vb (trailingZeros 32 (bitOr x y))
-untouched-word ma va mb vb x y e f = untouched ma va mb vb (trailingZeros 32 (bitOr x y)) (λ k l. at x (ma * bitOr mb vb) k e l (clear k l .0)) (λ k l. at y (mb * bitOr ma va) k f l (clear k l .1))
+untouched-word ma va mb vb x y e f =
+    untouched ma va mb vb (trailingZeros 32 (bitOr x y)) (λ k l. at x (ma * bitOr mb vb) k e l (clear k l .0))
+    (λ k l. at y (mb * bitOr ma va) k f l (clear k l .1))
   where
     clear : (k : ℕ) → k < trailingZeros 32 (bitOr x y) → (bit x k ≡ 0) × (bit y k ≡ 0)
     clear k l = let z = trailing-bit 32 (bitOr x y) k l in let o = bit-or x y k in (omega arith, omega arith)

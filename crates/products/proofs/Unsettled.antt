@@ -132,9 +132,11 @@ module _ (w ma va mb vb u : ℕ) (F : Formed w ma va mb vb) (h : u < 2 ^ w) wher
       → bitOr (bitAnd u s) r ≡ bitAnd u m
   settled-or-left s n r hs hn S e =
       let o = F .most in
-      bit-ext w (bitOr (bitAnd u s) r) (bitAnd u m) (or-lt w (bitAnd u s) r (part u s (le-refl u)) (omega (arith, part (bitAnd u rest) m (and-le-l u rest)))) (part u m (le-refl u)) (λ k l.
+      bit-ext w (bitOr (bitAnd u s) r) (bitAnd u m) (or-lt w (bitAnd u s) r (part u s (le-refl u)) (omega (arith, part (bitAnd u rest) m (and-le-l u rest))))
+      (part u m (le-refl u)) (λ k l.
       bit-or (bitAnd u s) r k
-      ∙ ap₂ max (bit-and u s k) (ap (λ (x : ℕ). bit x k) e ∙ bit-and (bitAnd u rest) m k ∙ ap (λ (x : ℕ). min x (bit m k)) (bit-clear 32 u (bitOr s n) k (or-lt 32 s n hs hn) (omega arith)))
+      ∙ ap₂ max (bit-and u s k)
+      (ap (λ (x : ℕ). bit x k) e ∙ bit-and (bitAnd u rest) m k ∙ ap (λ (x : ℕ). min x (bit m k)) (bit-clear 32 u (bitOr s n) k (or-lt 32 s n hs hn) (omega arith)))
       ∙ at k l
       ∙ sym (bit-and u m k))
     where

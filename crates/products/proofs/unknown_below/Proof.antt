@@ -26,7 +26,8 @@ open-below : (o : tie.After-width-mask) → bitAnd (left o) (o .width-mask .resu
 open-below o = subst (λ (n : ℕ). bitAnd (left o) n < 2 ^ start o .args .w) (sym (o .width-mask .ensures)) (mask-lt (left o) (start o .args .w))
 
 -- the columns seen, with those of r
-with-open : (o : tie.After-width-mask) (r : ℕ) → (let a = start o .args in r ≡ bitAnd (bitAnd (left o) (o .width-mask .result)) (productOf (a .w) (a .ma) (a .va) (a .mb) (a .vb) .mask))
+with-open : (o : tie.After-width-mask) (r : ℕ)
+    → (let a = start o .args in r ≡ bitAnd (bitAnd (left o) (o .width-mask .result)) (productOf (a .w) (a .ma) (a .va) (a .mb) (a .vb) .mask))
     → (k : ℕ) → k < start o .args .w → (let a = start o .args in bit (bitOr (seen o) r) k ≡ bit (productOf (a .w) (a .ma) (a .va) (a .mb) (a .vb) .mask) k)
 with-open o r e =
     let a = start o .args in
