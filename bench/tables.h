@@ -37,13 +37,13 @@ struct Table {
 
 // By kind.
 inline constexpr Shape shapes[KINDS] = {
-    {RIFFLERLEEK_COPY, 32, 32, 0, 0, 0},     {RIFFLERLEEK_NOT, 32, 32, 0, 0, 0},     {RIFFLERLEEK_AND, 32, 32, 32, 0, 0},
-    {RIFFLERLEEK_OR, 32, 32, 32, 0, 0},      {RIFFLERLEEK_XOR, 32, 32, 32, 0, 0},    {RIFFLERLEEK_SHL, 32, 32, 0, 0, 32},
-    {RIFFLERLEEK_LSHR, 32, 32, 0, 0, 32},    {RIFFLERLEEK_ASHR, 32, 32, 0, 0, 32},   {RIFFLERLEEK_ROTL, 32, 32, 0, 0, 32},
-    {RIFFLERLEEK_EXTRACT, 16, 32, 0, 0, 17}, {RIFFLERLEEK_CONCAT, 32, 16, 16, 0, 0}, {RIFFLERLEEK_ZEXT, 32, 16, 0, 0, 0},
-    {RIFFLERLEEK_SEXT, 32, 16, 0, 0, 0},     {RIFFLERLEEK_ADD, 32, 32, 32, 0, 0},    {RIFFLERLEEK_SUB, 32, 32, 32, 0, 0},
-    {RIFFLERLEEK_NEG, 32, 32, 0, 0, 0},      {RIFFLERLEEK_MUL, 32, 32, 32, 0, 0},    {RIFFLERLEEK_EQ, 1, 32, 32, 0, 0},
-    {RIFFLERLEEK_ULT, 1, 32, 32, 0, 0},      {RIFFLERLEEK_SLT, 1, 32, 32, 0, 0},     {RIFFLERLEEK_ITE, 32, 32, 32, 1, 0},
+    {RIFFLERLEEK_KIND_COPY, 32, 32, 0, 0, 0},     {RIFFLERLEEK_KIND_NOT, 32, 32, 0, 0, 0},     {RIFFLERLEEK_KIND_AND, 32, 32, 32, 0, 0},
+    {RIFFLERLEEK_KIND_OR, 32, 32, 32, 0, 0},      {RIFFLERLEEK_KIND_XOR, 32, 32, 32, 0, 0},    {RIFFLERLEEK_KIND_SHL, 32, 32, 0, 0, 32},
+    {RIFFLERLEEK_KIND_LSHR, 32, 32, 0, 0, 32},    {RIFFLERLEEK_KIND_ASHR, 32, 32, 0, 0, 32},   {RIFFLERLEEK_KIND_ROTL, 32, 32, 0, 0, 32},
+    {RIFFLERLEEK_KIND_EXTRACT, 16, 32, 0, 0, 17}, {RIFFLERLEEK_KIND_CONCAT, 32, 16, 16, 0, 0}, {RIFFLERLEEK_KIND_ZEXT, 32, 16, 0, 0, 0},
+    {RIFFLERLEEK_KIND_SEXT, 32, 16, 0, 0, 0},     {RIFFLERLEEK_KIND_ADD, 32, 32, 32, 0, 0},    {RIFFLERLEEK_KIND_SUB, 32, 32, 32, 0, 0},
+    {RIFFLERLEEK_KIND_NEG, 32, 32, 0, 0, 0},      {RIFFLERLEEK_KIND_MUL, 32, 32, 32, 0, 0},    {RIFFLERLEEK_KIND_EQ, 1, 32, 32, 0, 0},
+    {RIFFLERLEEK_KIND_ULT, 1, 32, 32, 0, 0},      {RIFFLERLEEK_KIND_SLT, 1, 32, 32, 0, 0},     {RIFFLERLEEK_KIND_ITE, 32, 32, 32, 1, 0},
 };
 
 inline const Groups one_width = {{32, 0, 64}};
@@ -54,8 +54,8 @@ enum { MIXED, ADD };
 
 inline const Plan plans[] = {
     {"every kind, mixed", three_widths, true, 0, KINDS},
-    {"add", one_width, false, RIFFLERLEEK_ADD, 1},
-    {"mul", one_width, false, RIFFLERLEEK_MUL, 1},
+    {"add", one_width, false, RIFFLERLEEK_KIND_ADD, 1},
+    {"mul", one_width, false, RIFFLERLEEK_KIND_MUL, 1},
 };
 
 inline const Group &group_of(const Plan &plan, uint32_t width)

@@ -1,18 +1,16 @@
 -- Writing the lines of a table: the turns of the two loops. Assumes nothing.
 --   lines-on, lines-end                   the lines from i on, by the first of them
---   record-at                             the words of a record, by their places in the slice
 --   rows-begin, row-on, rows-end          the row lines
 --   records-begin, record-on, records-end, kind-in   the record lines
-use mathlib.Core.Path.{_≡_, refl, sym, ap, subst, _∙_}
-use mathlib.Core.List.{List, [], _∷_, _++_}
-use Prim.Native.Nat.{ℕ, suc, _+_, _-_, _*_, _/_, _≤_, _<_}
+use mathlib.Core.Path.{_≡_, sym, ap, subst, _∙_}
+use mathlib.Core.List.{List, [], _++_}
+use Prim.Native.Nat.{ℕ, suc, _+_, _-_, _/_, _≤_, _<_}
 use native.Mathlib.Nat.{sub-zero}
 use native.Mathlib.Numerals.{add-one}
 use native.Mathlib.Omega.{arith}
 use lib.Dec.{T}
 use Rattle.operations.specs.Kinds.{isKind}
-use lib.ListN.{length, getD, take, drop, length-drop}
-use lib.Seq.{getD-take, getD-drop, length-take-le}
+use lib.ListN.{length, getD}
 use Rattle.operations.specs.Limits.{recordWords}
 use Rattle.operations.specs.declared.Record.{Record}
 use Rattle.operations.specs.Record.{kindWord, wordsOf}
@@ -34,34 +32,6 @@ lines-on f i n h =
 pub lines-end : (f : ℕ → Line) (i n : ℕ) → n ≤ i → linesText (listed f i (n - i)) ≡ []
 unfolding listed linesText
 lines-end f i n h = let k : n - i ≡ 0 = omega arith in ap (λ (x : ℕ). linesText (listed f i x)) k
-
--- ---- the words of a record
-
-five : (ws : List ℕ) → length ws ≡ 5 → ws ≡ getD ws 0 0 ∷ getD ws 1 0 ∷ getD ws 2 0 ∷ getD ws 3 0 ∷ getD ws 4 0 ∷ []
-five [] e = absurd (omega arith)
-five (a ∷ []) e = absurd (omega arith)
-five (a ∷ b ∷ []) e = absurd (omega arith)
-five (a ∷ b ∷ c ∷ []) e = absurd (omega arith)
-five (a ∷ b ∷ c ∷ d ∷ []) e = absurd (omega arith)
-five (a ∷ b ∷ c ∷ d ∷ f ∷ []) e = refl
-five (a ∷ b ∷ c ∷ d ∷ f ∷ g ∷ ws) e = absurd (omega arith)
-
-module _ (words : List ℕ) (i : ℕ) (h : i < length words / recordWords) where
-  word-at : (k : ℕ) → k < 5 → getD (take recordWords (drop (recordWords * i) words)) k 0 ≡ getD words (recordWords * i + k) 0
-  word-at k l = getD-take recordWords (drop (recordWords * i) words) k 0 l ∙ getD-drop (recordWords * i) words k 0
-
-  pub record-at : (j : ℕ) → j ≡ recordWords * i
-      → take recordWords (drop (recordWords * i) words) ≡ getD words j 0 ∷ getD words (j + 1) 0 ∷ getD words (j + 2) 0 ∷ getD words (j + 3) 0 ∷ getD words (j + 4) 0 ∷ []
-  record-at j e =
-      let z : recordWords * i + 0 ≡ j = omega arith in
-      let at : (k : ℕ) → k < 5 → getD (take recordWords (drop (recordWords * i) words)) k 0 ≡ getD words (j + k) 0 = λ k l. word-at k l ∙ ap (λ (x : ℕ). getD words (x + k) 0) (sym e) in
-      let a₀ = word-at 0 (omega arith) ∙ ap (λ (x : ℕ). getD words x 0) z in
-      let a₁ = at 1 (omega arith) in
-      let a₂ = at 2 (omega arith) in
-      let a₃ = at 3 (omega arith) in
-      let a₄ = at 4 (omega arith) in
-      five (take recordWords (drop (recordWords * i) words)) (length-take-le recordWords (drop (recordWords * i) words) (omega (arith, length-drop (recordWords * i) words)))
-      ∙ (λ ι. a₀ ι ∷ a₁ ι ∷ a₂ ι ∷ a₃ ι ∷ a₄ ι ∷ [])
 
 -- ---- the turns of the two loops
 
