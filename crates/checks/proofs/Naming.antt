@@ -1,5 +1,5 @@
 -- Checks 6 to 8 of a record; its words in the word slice. Assumes nothing.
-use mathlib.Core.Path.{_≡_, sym, ap, subst, _∙_}
+use mathlib.Core.Path.{_≡_, refl, sym, ap, subst, _∙_}
 use mathlib.Core.Bool.{Bool, true, false, not}
 use mathlib.Core.List.{List, [], _∷_}
 use Prim.Native.Nat.{ℕ, suc, _+_, _≤_, _<_}
@@ -30,6 +30,10 @@ in-limit unused n word h = (tt, let z : word ≡ 0 = omega arith in rw z tt)
 -- the kind's number, as the code tests it
 pub kind-in : (n : ℕ) (b : Bool) → b ≡ isKind n → not b ≡ false → T (isKind n)
 kind-in n b e t = subst T (sym (sym e ∙ not-false b t)) tt
+
+pub kind-passes : (b : Bool) → T b → not b ≡ false
+kind-passes true t = refl
+kind-passes false t = absurd t
 
 module _ (n : ℕ) (r : Record) (known : T (isKind (r .kind))) where
   -- the word a is a row for every kind

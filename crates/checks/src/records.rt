@@ -45,13 +45,11 @@ pub fn record_at(words: &[u32], i: usize) -> Record
     }
 }
 
-// Whether a record passes checks 6 to 8, in a table of n rows: a word is below its limit exactly where neither 7 nor 8 refuses it.
+// Whether a record of a known kind passes checks 7 and 8, in a table of n rows: a word is below its limit exactly where neither refuses it.
 fn words_pass(n: usize, r: Record) -> bool
+    requires { ⌜ T (isKind (r .kind)) ⌝ }
     ensures { λ b. ⌜ (b ≡ true → Passed (placed 0 (namedFaults n (wordsOf r)))) ⌝ }
 {
-    if !is_kind(r.kind) {
-        return false;
-    }
     if row_outside(n, r.t) {
         return false;
     }
@@ -93,13 +91,11 @@ fn parameter_misused(r: Record) -> bool
     word_misused(parameter_use(r.kind), r.p)
 }
 
-// The first of checks 6 to 8 that a record fails, test by test; i is its place.
+// The first of checks 7 and 8 that a record of a known kind fails, test by test; i is its place.
 fn first_fault(n: usize, r: Record, i: usize) -> Verdict
+    requires { ⌜ T (isKind (r .kind)) ⌝ }
     ensures { λ v. ⌜ verdictModel v ≡ judged (placed i (namedFaults n (wordsOf r))) ⌝ }
 {
-    if !is_kind(r.kind) {
-        return refuse(refusals::KIND, i);
-    }
     if row_outside(n, r.t) {
         return refuse(refusals::ROW, i);
     }
@@ -121,10 +117,13 @@ fn first_fault(n: usize, r: Record, i: usize) -> Verdict
     Verdict::Passed
 }
 
-// The first of checks 6 to 8 that a record fails: which one is looked for only where there is one.
+// The first of checks 6 to 8 that a record fails: which of 7 and 8 is looked for only where there is one.
 fn check_named(n: usize, r: Record, i: usize) -> Verdict
     ensures { λ v. ⌜ verdictModel v ≡ judged (placed i (namedFaults n (wordsOf r))) ⌝ }
 {
+    if !is_kind(r.kind) {
+        return refuse(refusals::KIND, i);
+    }
     if words_pass(n, r) {
         return Verdict::Passed;
     }

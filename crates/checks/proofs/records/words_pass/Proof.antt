@@ -4,35 +4,25 @@ use mathlib.Core.Bool.{true, false}
 use borrow.Author.Needs.{needs}
 use borrow.Author.Tests.{not-false}
 use lib.Dec.{T}
-use Rattle.operations.specs.Kinds.{isKind, kindOf}
-use Rattle.checks.proofs.Naming.{kind-in, passes}
+use Rattle.operations.specs.Kinds.{kindOf}
+use Rattle.checks.proofs.Naming.{passes}
 use Rattle.checks.proofs.records.words_pass.Statement.{statement}
 use Rattle.checks.proofs.records.words_pass.Tie as tie
 
 no-pass : {A : Type 0} → false ≡ true → A
 no-pass e = absurd (subst T (sym e) tt)
 
-known : (c : tie.Else1) → T (isKind (c .before .before .args .r .kind))
-known c = kind-in (c .before .before .args .r .kind) (c .before .is-kind .result) (c .before .is-kind .ensures) (c .if1 .left)
-
-second-use-requires : tie.Need-second-use-requires
-second-use-requires c κs = known (c .before .before .before .before)
-
-parameter-use-requires : tie.Need-parameter-use-requires
-parameter-use-requires c κs = known (c .before .before .before .before .before .before .before)
-
-returns-5 : tie.Need-returns-5
-returns-5 c e =
-    let c4 = c .before .before in
-    let c3 = c4 .before .before .before in
-    let c2 = c3 .before .before in
+returns-4 : tie.Need-returns-4
+returns-4 c e =
+    let c3 = c .before .before in
+    let c2 = c3 .before .before .before in
     let c1 = c2 .before .before in
-    let a = c1 .before .before .args in
-    let k = kindOf (a .r .kind) in
-    passes (a .n) (a .r) (known c1)
-    (sym (c2 .before .row-outside .ensures) ∙ c2 .if2 .left)
-    (sym (c3 .before .row-outside2 .ensures) ∙ c3 .if3 .left)
-    (sym (c4 .before .word-within .ensures (k .use-b) (c4 .before .before .second-use .ensures)) ∙ not-false _ (c4 .if4 .left))
+    let s = c1 .before .before in
+    let k = kindOf (s .args .r .kind) in
+    passes (s .args .n) (s .args .r) (s .pre)
+    (sym (c1 .before .row-outside .ensures) ∙ c1 .if1 .left)
+    (sym (c2 .before .row-outside2 .ensures) ∙ c2 .if2 .left)
+    (sym (c3 .before .word-within .ensures (k .use-b) (c3 .before .before .second-use .ensures)) ∙ not-false _ (c3 .if3 .left))
     (sym (c .word-within2 .ensures (k .use-p) (c .before .parameter-use .ensures)) ∙ e)
 
 pub words-pass-spec : {M : Type 1} → statement M
@@ -44,10 +34,8 @@ words-pass-spec =
     (λ c κs. search needs)
     (λ c e. no-pass e)
     (λ c κs. search needs)
-    (λ c e. no-pass e)
-    second-use-requires
     (λ c κs. search needs)
     (λ c e. no-pass e)
-    parameter-use-requires
     (λ c κs. search needs)
-    returns-5)
+    (λ c κs. search needs)
+    returns-4)
