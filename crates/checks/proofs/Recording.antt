@@ -9,7 +9,7 @@ use Rattle.operations.specs.declared.Record.{Record}
 use Rattle.operations.specs.Record.{wordsOf, fault, recordFaults, lockFault}
 use Rattle.checks.specs.Check.{done, refused, Check, verdict, placed, rising}
 use Rattle.checks.specs.Table.{Table, recordCount, recordOf}
-use Rattle.checks.specs.Checks.{recordChecks, openChecks}
+use Rattle.checks.specs.Checks.{recordChecks}
 use Rattle.checks.specs.Model.{judged}
 use Rattle.checks.specs.Encoding.{lockWith, recordWith, recordsWith}
 
@@ -43,9 +43,6 @@ rising-ext : (f g : ℕ → List Check) (i n : ℕ) → ((j : ℕ) → f j ≡ g
 unfolding rising
 rising-ext f g i zero e = refl
 rising-ext f g i (suc n) e = let h = e i in let t = rising-ext f g (suc i) n e in cc
-
-pub records-open : (t : Table) → recordsWith true t ≡ openChecks t
-records-open t = refl
 
 pub records-closed : (t : Table) → recordsWith false t ≡ recordChecks t
 records-closed t =

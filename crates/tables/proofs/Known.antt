@@ -1,7 +1,7 @@
 -- Fully known operand rows give the SMT-LIB number, at every point of an accepted run. Assumes nothing.
 use mathlib.Core.Path.{_≡_, refl, sym, ap, _∙_, subst, subst₂}
 use mathlib.Core.Bool.{not}
-use mathlib.Core.List.{List, map, Memᴰ·append-left}
+use mathlib.Core.List.{List, map, Memᴰ·append-left, map-map}
 use Prim.Native.Nat.{ℕ, suc, _-_, _^_, _≤_, _<_}
 use native.Mathlib.Nat.{add-sub-of-le}
 use native.Mathlib.Omega.{arith}
@@ -22,7 +22,7 @@ use Rattle.tables.specs.Step.{operandRows, step, after}
 use Rattle.tables.specs.Run.{programOf, pointRows}
 use Rattle.tables.specs.Demand.{StateFits}
 use Rattle.tables.specs.Known.{KnownBefore, operandWidths, TermFor, smtVector, knownRow, SmtNumber, Demand2}
-use Rattle.tables.proofs.Lists.{map-map, operands-count}
+use Rattle.tables.proofs.Lists.{operands-count}
 use Rattle.tables.proofs.Fits.{effect-fits, effects-fit}
 use Rattle.tables.proofs.Steps.{operands-formed, step-targets}
 use Rattle.tables.proofs.Points.{after-fits}

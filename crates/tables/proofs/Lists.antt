@@ -9,10 +9,6 @@ use Rattle.operations.specs.Kind.{Use, asRow, asNumber, unused, Kind}
 use Rattle.operations.specs.Record.{used, operands}
 use Rattle.operations.specs.Result.{arity}
 
-pub map-map : {A B C : Type 0} (g : B → C) (f : A → B) (l : List A) → map g (map f l) ≡ map (λ a. g (f a)) l
-map-map g f [] = refl
-map-map g f (a ∷ l) = let e = map-map g f l in λ ι. g (f a) ∷ e ι
-
 -- a stretch inside a part of a list is that stretch of the list
 pub inside-part : (n k m : ℕ) (l : List ℕ) → k + n ≤ m → take n (drop k (take m l)) ≡ take n (drop k l)
 inside-part n zero m l h = take-take n m l (omega arith)

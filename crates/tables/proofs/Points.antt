@@ -1,12 +1,10 @@
--- The points of a stretch: what holds after each record. `after` from both ends. Assumes nothing.
+-- The points of a stretch: what holds after each record. Assumes nothing.
 --   Stretch P first n s   demand 3 of the n records from `first` on, run from the rows s, but for what is accepted
-use mathlib.Core.Path.{_≡_, sym, ap, _∙_}
 use mathlib.Core.List.{List}
 use Prim.Native.Nat.{ℕ, zero, suc, _+_, _≤_, _<_}
-use native.Mathlib.Nat.{add-zero, add-suc, suc-add}
 use native.Mathlib.Omega.{arith}
 use Rattle.checks.specs.Table.{State}
-use Rattle.tables.specs.Step.{Program, step, plainStep, after, plainAfter}
+use Rattle.tables.specs.Step.{Program, after, plainAfter}
 use Rattle.tables.specs.Demand.{StateFits, CoversState, InsideState, After}
 use Rattle.tables.proofs.Fits.{FitProgram}
 use Rattle.tables.proofs.Steps.{step-fits, step-after, step-covers, step-inside}
@@ -15,22 +13,6 @@ pub record Stretch (P : Program) (first n : ℕ) (s : State) : Type 0 where
   pub best-results : (j : ℕ) → j < n → After (P .widths) (P .effects (first + j)) (after P first j s) (after P first (suc j) s)
   pub plain-runs : (ns : List ℕ) → CoversState (P .widths) s ns → (j : ℕ) → j ≤ n → CoversState (P .widths) (after P first j s) (plainAfter P first j ns)
   pub inner-runs : (t : State) → StateFits (P .widths) t → InsideState (P .widths) t s → (j : ℕ) → j ≤ n → InsideState (P .widths) (after P first j t) (after P first j s)
-
--- ---- the first record first
-
-pub after-first : (P : Program) (first j : ℕ) (s : State) → after P first (suc j) s ≡ after P (suc first) j (step (P .widths) (P .effects first) s)
-unfolding after
-after-first P first zero s = ap (λ (i : ℕ). step (P .widths) (P .effects i) s) (add-zero first)
-after-first P first (suc j) s =
-    ap (step (P .widths) (P .effects (first + suc j))) (after-first P first j s)
-    ∙ ap (λ (i : ℕ). step (P .widths) (P .effects i) (after P (suc first) j (step (P .widths) (P .effects first) s))) (add-suc first j ∙ sym (suc-add first j))
-
-pub plainAfter-first : (P : Program) (first j : ℕ) (ns : List ℕ) → plainAfter P first (suc j) ns ≡ plainAfter P (suc first) j (plainStep (P .effects first) ns)
-unfolding plainAfter
-plainAfter-first P first zero ns = ap (λ (i : ℕ). plainStep (P .effects i) ns) (add-zero first)
-plainAfter-first P first (suc j) ns =
-    ap (plainStep (P .effects (first + suc j))) (plainAfter-first P first j ns)
-    ∙ ap (λ (i : ℕ). plainStep (P .effects i) (plainAfter P (suc first) j (plainStep (P .effects first) ns))) (add-suc first j ∙ sym (suc-add first j))
 
 -- ---- every point
 

@@ -1,12 +1,11 @@
 -- Rows put, and numbers set, one after another: what they leave. Assumes nothing.
 --   FitPut widths i r   r is a well-formed vector of the width of row i
-use mathlib.Core.Path.{_≡_, refl, sym, ap, _∙_, subst, subst₂}
+use mathlib.Core.Path.{_≡_, refl, sym, _∙_, subst}
 use mathlib.Core.Logic.{_≢_}
 use mathlib.Core.List.{List, [], _∷_}
 use Prim.Native.Nat.{ℕ, _<_}
-use native.Mathlib.Decide.{ℕ-discrete}
 use lib.ListN.{length, getD, set, length-set}
-use lib.Seq.{set-getD, getD-set-same, getD-set-other}
+use lib.Seq.{getD-set-same, getD-set-other}
 use Rattle.vectors.specs.Lists.{All}
 use Rattle.vectors.specs.Row.{Row, WellFormed, Covers, Inside}
 use Rattle.operations.specs.Record.{widthAt}
@@ -44,29 +43,6 @@ module _ {A : Type 0} (widths : List ℕ) (t : A → ℕ) (g : A → Row) where
       covers-all h l (F .1) (c .1) (put s (t a) (g a)) (fits-put widths s S (t a) (g a) (F .0 .width-is) (F .0 .formed)) (set ns (t a) (h a))
       (covers-put widths s S ns C (t a) (g a) (h a) (F .0 .width-is) (c .0))
 
-  -- rows put around the rows of s₀ leave rows around them
-  pub around-all : (s₀ : State) (l : List A) → All (λ a. FitPut widths (t a) (g a)) l → All (λ a. Inside (rowAt widths s₀ (t a)) (g a)) l → (s : State) → StateFits widths s → InsideState widths s₀ s → InsideState widths s₀ (putAll t g l s)
-  around-all s₀ [] F c s S I = I
-  around-all s₀ (a ∷ l) F c s S I =
-      around-all s₀ l (F .1) (c .1) (put s (t a) (g a)) (fits-put widths s S (t a) (g a) (F .0 .width-is) (F .0 .formed)) (one (c .0))
-    where
-      one : Inside (rowAt widths s₀ (t a)) (g a) → InsideState widths s₀ (put s (t a) (g a))
-      one i j h =
-          elim (ℕ-discrete j (t a)) [
-            | yes e ↦ subst₂ Inside (ap (rowAt widths s₀) (sym e)) (sym (row-same widths s S (t a) (g a) (F .0 .width-is) j e h)) i
-            | no d ↦ subst (Inside (rowAt widths s₀ j)) (sym (row-other widths s (t a) (g a) j d)) (I j h)
-          ]
-
-  -- rows that are there already
-  pub same-all : (s : State) (l : List A) → All (λ a. (g a .mask ≡ getD (s .masks) (t a) 0) × (g a .value ≡ getD (s .values) (t a) 0)) l → putAll t g l s ≡ s
-  same-all s [] e = refl
-  same-all s (a ∷ l) e =
-      ap (putAll t g l) (λ ι. record {
-        masks = (ap (set (s .masks) (t a)) (e .0 .0) ∙ set-getD (s .masks) (t a) 0) ι;
-        values = (ap (set (s .values) (t a)) (e .0 .1) ∙ set-getD (s .values) (t a) 0) ι;
-      })
-      ∙ same-all s l (e .1)
-
   -- rows put in two states, each inside the other's
   pub inside-all : (g′ : A → Row) (l : List A) → All (λ a. FitPut widths (t a) (g a)) l → All (λ a. FitPut widths (t a) (g′ a)) l → All (λ a. Inside (g a) (g′ a)) l
       → (s s′ : State) → StateFits widths s → StateFits widths s′ → InsideState widths s s′ → InsideState widths (putAll t g l s) (putAll t g′ l s′)
@@ -79,10 +55,6 @@ module _ {A : Type 0} (widths : List ℕ) (t : A → ℕ) (g : A → Row) where
 -- ---- numbers set one after another
 
 module _ {A : Type 0} (t : A → ℕ) (h : A → ℕ) where
-  pub length-all : (l : List A) (ns : List ℕ) → length (setAll t h l ns) ≡ length ns
-  length-all [] ns = refl
-  length-all (a ∷ l) ns = length-all l (set ns (t a) (h a)) ∙ length-set ns (t a) (h a)
-
   pub numbers-other : (l : List A) (ns : List ℕ) (i : ℕ) → All (λ a. t a ≢ i) l → getD (setAll t h l ns) i 0 ≡ getD ns i 0
   numbers-other [] ns i d = refl
   numbers-other (a ∷ l) ns i d = numbers-other l (set ns (t a) (h a)) i (d .1) ∙ getD-set-other ns (t a) i (h a) 0 (λ p. d .0 (sym p))

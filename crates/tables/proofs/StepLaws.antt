@@ -1,7 +1,7 @@
 -- A record's step as the code makes it: the rows that its words name, the kernel's result, and the one row written. Assumes nothing.
 use mathlib.Core.Path.{_≡_, refl, sym, ap, _∙_, subst, subst₂, transport}
 use mathlib.Core.Bool.{_&&_}
-use mathlib.Core.List.{List, [], _∷_, map}
+use mathlib.Core.List.{List, [], _∷_, map, map-map}
 use Prim.Native.Nat.{ℕ, _≤_, _<_}
 use native.Mathlib.Omega.{arith}
 use lib.Dec.{T, eqb, eqb→eq}
@@ -21,7 +21,7 @@ use Rattle.bits.specs.Limits.{widthLimit}
 use Rattle.checks.specs.Table.{State, rowAt}
 use Rattle.tables.specs.Step.{result, step}
 use Rattle.tables.specs.Encoding.{usedRow, StepReady}
-use Rattle.tables.proofs.Lists.{map-map, operands-count}
+use Rattle.tables.proofs.Lists.{operands-count}
 
 -- ---- a condition row is one bit wide (refusal 9)
 
