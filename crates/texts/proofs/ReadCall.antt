@@ -25,7 +25,7 @@ use Rattle.lines.specs.Model.{openingModel}
 use Rattle.texts.specs.Calls.{textOver, badLine, rowsExceed, wordsExceed, readChecks, Counts, countsOf, ReadBack, readAs, readOf}
 use Rattle.texts.proofs.ReadChecks.{ReadPassed, answer-of-read}
 use Rattle.texts.proofs.Bodies.{edition, body, lines-are, bad-are, good-lines}
-use Rattle.texts.specs.Fill.{Surveyed, RowsWait, RowsRead, RecordsWait, RecordsRead}
+use Rattle.table_lines.specs.Fill.{Surveyed, RowsWait, RowsRead, RecordsWait, RecordsRead}
 
 -- the answer, by the seven conditions in their order
 abbrev chosen : Bool → Bool → Bool → Bool → Bool → Bool → Bool → ℕ → Counts → Answer Counts

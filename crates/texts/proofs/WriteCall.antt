@@ -32,7 +32,7 @@ use Rattle.grammar.proofs.Sizes.{lines-append, text-size}
 use Rattle.texts.specs.Model.{bytesModel}
 use Rattle.texts.specs.declared.BytesAnswer.{BytesAnswer}
 use Rattle.texts.specs.declared.BytesAnswer.the-variants.{Bytes, Refused as NotBytes}
-use Rattle.texts.specs.Print.{RowsFit, RecordsFit}
+use Rattle.table_lines.specs.Print.{RowsFit, RecordsFit}
 use Rattle.lines.specs.Put.{Holds, Put}
 use Rattle.lines.proofs.Puts.{put-length, sets-append}
 

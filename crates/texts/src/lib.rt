@@ -18,9 +18,6 @@ use checks::refusals::LENGTHS;
 use checks::refusals::LINE;
 use checks::refusals::LONG;
 use checks::refusals::ROOM;
-use fill::fill_records;
-use fill::fill_rows;
-use fill::survey;
 use limits::RECORD_BYTES;
 use limits::ROW_BYTES;
 use limits::TEXT_LIMIT;
@@ -29,12 +26,13 @@ use lines::cut::TAB;
 use lines::cut::part;
 use lines::edition::opening_of;
 use operations::RECORD_WORDS;
-use print::put_records;
-use print::put_rows;
+use table_lines::fill::fill_records;
+use table_lines::fill::fill_rows;
+use table_lines::fill::survey;
+use table_lines::print::put_records;
+use table_lines::print::put_rows;
 
-mod fill; // fill.rt: the two passes of read
 pub mod limits; // limits.rt: numbers that 01 sets
-mod print; // print.rt: the lines of a table written
 
 // A number of bytes.
 pub enum BytesAnswer {

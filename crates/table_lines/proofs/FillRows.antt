@@ -20,9 +20,9 @@ use Rattle.grammar.specs.Line.{lineOf}
 use Rattle.grammar.specs.Lines.{linesFrom, firstBad, rowsIn, wordsIn}
 use Rattle.grammar.proofs.Cuts.{before-le}
 use Rattle.grammar.proofs.Sorted.{bad-any, no-rows-after}
-use Rattle.texts.specs.Fill.{RowsWait, RowsRead}
+use Rattle.table_lines.specs.Fill.{RowsWait, RowsRead}
 use Rattle.lines.proofs.Puts.{sets-append}
-use Rattle.texts.proofs.Surveys.{lines-on, lines-last, lines-end}
+use Rattle.table_lines.proofs.Surveys.{lines-on, lines-last, lines-end}
 
 none : LineRow
 none = record { lock = 0; vector = row 0 0 0 }

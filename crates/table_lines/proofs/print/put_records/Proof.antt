@@ -1,4 +1,4 @@
--- `texts::print::put_records`: the record lines still to come, put at the place reached, make up the whole. Assumes nothing.
+-- `table_lines::print::put_records`: the record lines still to come, put at the place reached, make up the whole. Assumes nothing.
 use mathlib.Core.Path.{_≡_, refl}
 use mathlib.Core.List.{[]}
 use Prim.Native.Nat.{_≤_, _+_, _-_, _/_}
@@ -9,9 +9,9 @@ use Rattle.checks.specs.Model.{lent}
 use Rattle.grammar.specs.Print.{linesText, recordLines}
 use Rattle.lines.proofs.PutLines.{recordText}
 use Rattle.lines.proofs.Puts.{Writing, begin, step-on, room-on, done-on}
-use Rattle.texts.proofs.PrintLines.{records-from, records-begin, record-on, kind-in, records-end}
-use Rattle.texts.proofs.print.put_records.Statement.{statement}
-use Rattle.texts.proofs.print.put_records.Tie as tie
+use Rattle.table_lines.proofs.PrintLines.{records-from, records-begin, record-on, kind-in, records-end}
+use Rattle.table_lines.proofs.print.put_records.Statement.{statement}
+use Rattle.table_lines.proofs.print.put_records.Tie as tie
 
 abbrev Inv-loop : tie.InvT-loop
 Inv-loop out₀ from words n at₀ i₀ out at i = (n ≡ length words / recordWords) × (i ≤ n) × Writing out₀ from (linesText (recordLines (lent [] [] [] [] words))) out at (records-from words i)

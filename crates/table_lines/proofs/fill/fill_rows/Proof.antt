@@ -1,13 +1,13 @@
--- `texts::fill::fill_rows`: the rows passed are in the slices, and the rest is still to come. Assumes nothing.
+-- `table_lines::fill::fill_rows`: the rows passed are in the slices, and the rest is still to come. Assumes nothing.
 use mathlib.Core.Path.{ap}
 use Prim.Native.Nat.{_≤_, _-_}
 use native.Mathlib.Omega.{arith}
 use borrow.Author.Needs.{needs}
 use Rattle.lines.specs.Model.{lineModel, editionModel}
-use Rattle.texts.proofs.FillRows.{Filling, begin, lengths, ends-in, no-record, no-outside, more, done}
-use Rattle.texts.proofs.RowBytes.{bytes-fit}
-use Rattle.texts.proofs.fill.fill_rows.Statement.{statement}
-use Rattle.texts.proofs.fill.fill_rows.Tie as tie
+use Rattle.table_lines.proofs.FillRows.{Filling, begin, lengths, ends-in, no-record, no-outside, more, done}
+use Rattle.table_lines.proofs.RowBytes.{bytes-fit}
+use Rattle.table_lines.proofs.fill.fill_rows.Statement.{statement}
+use Rattle.table_lines.proofs.fill.fill_rows.Tie as tie
 
 abbrev Inv-loop : tie.InvT-loop
 Inv-loop e text n width₀ lock₀ mask₀ value₀ at₀ k₀ width lock mask value at k = Filling (editionModel e) text at k width₀ width lock₀ lock mask₀ mask value₀ value × (k ≤ n)

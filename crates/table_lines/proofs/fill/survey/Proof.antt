@@ -1,4 +1,4 @@
--- `texts::fill::survey`: what is counted and what is left make up the whole. Assumes nothing.
+-- `table_lines::fill::survey`: what is counted and what is left make up the whole. Assumes nothing.
 use mathlib.Core.Path.{_≡_, refl, ap}
 use mathlib.Core.Logic.{⊎-elim}
 use Prim.Native.Nat.{_-_}
@@ -6,9 +6,9 @@ use native.Mathlib.Omega.{arith}
 use borrow.Author.Needs.{needs}
 use lib.ListN.{length}
 use Rattle.lines.specs.Model.{lineModel, editionModel}
-use Rattle.texts.proofs.Surveys.{Surveying, begin, no-end, outside-line, late-row, more-row, more-record, ended, with-counts}
-use Rattle.texts.proofs.fill.survey.Statement.{statement}
-use Rattle.texts.proofs.fill.survey.Tie as tie
+use Rattle.table_lines.proofs.Surveys.{Surveying, begin, no-end, outside-line, late-row, more-row, more-record, ended, with-counts}
+use Rattle.table_lines.proofs.fill.survey.Statement.{statement}
+use Rattle.table_lines.proofs.fill.survey.Tie as tie
 
 abbrev Inv-loop : tie.InvT-loop
 Inv-loop e text first len at₀ n₀ rows₀ records₀ at n rows records = (len ≡ length text) × Surveying (editionModel e) first text at n rows records

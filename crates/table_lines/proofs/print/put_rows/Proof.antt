@@ -1,4 +1,4 @@
--- `texts::print::put_rows`: the row lines still to come, put at the place reached, make up the whole. Assumes nothing.
+-- `table_lines::print::put_rows`: the row lines still to come, put at the place reached, make up the whole. Assumes nothing.
 use mathlib.Core.Path.{_≡_, refl}
 use mathlib.Core.List.{[]}
 use Prim.Native.Nat.{_≤_, _+_, _-_}
@@ -8,9 +8,9 @@ use Rattle.checks.specs.Model.{lent}
 use Rattle.grammar.specs.Print.{linesText, rowLines}
 use Rattle.lines.proofs.PutLines.{rowText}
 use Rattle.lines.proofs.Puts.{Writing, begin, step-on, room-on, done-on}
-use Rattle.texts.proofs.PrintLines.{rows-from, rows-begin, row-on, rows-end}
-use Rattle.texts.proofs.print.put_rows.Statement.{statement}
-use Rattle.texts.proofs.print.put_rows.Tie as tie
+use Rattle.table_lines.proofs.PrintLines.{rows-from, rows-begin, row-on, rows-end}
+use Rattle.table_lines.proofs.print.put_rows.Statement.{statement}
+use Rattle.table_lines.proofs.print.put_rows.Tie as tie
 
 abbrev Inv-loop : tie.InvT-loop
 Inv-loop out₀ width lock mask value n at₀ i₀ out at i = (n ≡ length width) × (i ≤ n) × Writing out₀ 0 (linesText (rowLines (lent width lock mask value []))) out at (rows-from (lent width lock mask value []) i)

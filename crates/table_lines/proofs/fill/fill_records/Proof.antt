@@ -1,12 +1,12 @@
--- `texts::fill::fill_records`: the words of the records passed are in the slice, and the rest is still to come. Assumes nothing.
+-- `table_lines::fill::fill_records`: the words of the records passed are in the slice, and the rest is still to come. Assumes nothing.
 use mathlib.Core.Path.{refl, ap}
 use Prim.Native.Nat.{_-_}
 use native.Mathlib.Omega.{arith}
 use borrow.Author.Needs.{needs}
 use Rattle.lines.specs.Model.{lineModel, editionModel}
-use Rattle.texts.proofs.FillRecords.{Filling, begin, same-length as kept, ends-in, no-row, no-outside, more, done, room}
-use Rattle.texts.proofs.fill.fill_records.Statement.{statement}
-use Rattle.texts.proofs.fill.fill_records.Tie as tie
+use Rattle.table_lines.proofs.FillRecords.{Filling, begin, same-length as kept, ends-in, no-row, no-outside, more, done, room}
+use Rattle.table_lines.proofs.fill.fill_records.Statement.{statement}
+use Rattle.table_lines.proofs.fill.fill_records.Tie as tie
 
 abbrev Inv-loop : tie.InvT-loop
 Inv-loop e text from n words₀ at₀ i₀ k₀ words at i k = Filling (editionModel e) text from at i k n words₀ words

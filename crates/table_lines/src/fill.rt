@@ -5,7 +5,7 @@ ghost use Rattle.operations.specs.Record.{wordsOf};
 ghost use Rattle.grammar.specs.Limits.{textLimit};
 ghost use Rattle.lines.specs.Model.{editionModel};
 ghost use Rattle.lines.specs.Put.{Holds, Put};
-ghost use Rattle.texts.specs.Fill.{Surveyed, RowsWait, RowsRead, RecordsWait, RecordsRead};
+ghost use Rattle.table_lines.specs.Fill.{Surveyed, RowsWait, RowsRead, RecordsWait, RecordsRead};
 use lines::cut::LF;
 use lines::cut::end_of;
 use lines::edition::Edition;
@@ -22,7 +22,7 @@ pub struct Tally {
 }
 
 // The first pass, over lines of which the first has the number `first`.
-pub(crate) fn survey(e: Edition, text: &[u8], first: usize) -> Tally
+pub fn survey(e: Edition, text: &[u8], first: usize) -> Tally
     requires { ⌜ (1 ≤ first) × (first ≤ textLimit) × (length (now text) ≤ textLimit) ⌝ }
     ensures { λ r. ⌜ Surveyed (editionModel e) first (now (text .entry)) (r .bad) (r .rows) (r .records) ⌝ }
 {
@@ -74,7 +74,7 @@ pub(crate) fn survey(e: Edition, text: &[u8], first: usize) -> Tally
 }
 
 // Puts the rows of a text, of which there are `n`, into the slices, and answers where the first record line begins.
-pub(crate) fn fill_rows(
+pub fn fill_rows(
     e: Edition,
     text: &[u8],
     n: usize,
@@ -127,7 +127,7 @@ fn put_words(words: &mut [u32], at: usize, r: Record) -> usize
 }
 
 // Puts the words of the record lines from `from` on, `n` lines, into the slice.
-pub(crate) fn fill_records(e: Edition, text: &[u8], from: usize, n: usize, words: &mut [u32])
+pub fn fill_records(e: Edition, text: &[u8], from: usize, n: usize, words: &mut [u32])
     requires { ⌜ RecordsWait (editionModel e) (now text) from n (now words) ⌝ }
     ensures { λ _. ⌜ RecordsRead (editionModel e) (now (text .entry)) from (now (words .entry)) (now (words .exit)) ⌝ }
 {

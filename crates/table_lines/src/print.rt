@@ -4,7 +4,7 @@ ghost use mathlib.Core.List.{[]};
 ghost use Rattle.checks.specs.Model.{lent};
 ghost use Rattle.grammar.specs.Print.{linesText, rowLines, recordLines};
 ghost use Rattle.lines.specs.Put.{Holds, Put};
-ghost use Rattle.texts.specs.Print.{RowsFit, RecordsFit};
+ghost use Rattle.table_lines.specs.Print.{RowsFit, RecordsFit};
 use bits::wide;
 use checks::records::record_at;
 use lines::put::put_record;

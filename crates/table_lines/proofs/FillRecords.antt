@@ -21,10 +21,10 @@ use Rattle.grammar.specs.Line.{lineOf}
 use Rattle.grammar.specs.Lines.{linesFrom, firstBad, wordsIn}
 use Rattle.grammar.proofs.Cuts.{before-le}
 use Rattle.grammar.proofs.Sorted.{bad-any}
-use Rattle.texts.specs.Fill.{RecordsWait, RecordsRead}
+use Rattle.table_lines.specs.Fill.{RecordsWait, RecordsRead}
 use Rattle.lines.specs.Put.{Put}
 use Rattle.lines.proofs.Puts.{sets-append}
-use Rattle.texts.proofs.Surveys.{lines-on, lines-last, lines-end}
+use Rattle.table_lines.proofs.Surveys.{lines-on, lines-last, lines-end}
 
 pub record Filling (ed : Edition) (text : List ℕ) (from at i k n : ℕ) (ws ws′ : List ℕ) : Type 0 where
   pub index : i ≡ recordWords * k

@@ -1,11 +1,11 @@
--- `texts::fill::put_words`: five words, one after another. Assumes nothing.
+-- `table_lines::fill::put_words`: five words, one after another. Assumes nothing.
 use mathlib.Core.Path.{refl}
 use native.Mathlib.Omega.{arith}
 use lib.ListN.{length-set}
-use Rattle.texts.proofs.FillRecords.{five}
+use Rattle.table_lines.proofs.FillRecords.{five}
 use borrow.Author.Needs.{needs}
-use Rattle.texts.proofs.fill.put_words.Statement.{statement}
-use Rattle.texts.proofs.fill.put_words.Tie as tie
+use Rattle.table_lines.proofs.fill.put_words.Statement.{statement}
+use Rattle.table_lines.proofs.fill.put_words.Tie as tie
 
 mul-words : tie.Need-mul-words
 mul-words c = search needs

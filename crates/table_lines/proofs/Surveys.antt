@@ -20,7 +20,7 @@ use Rattle.grammar.specs.Line.{lineOf}
 use Rattle.grammar.specs.Lines.{linesOf, linesFrom, firstBad, rowsIn, wordsIn}
 use Rattle.grammar.proofs.Cuts.{pieces-first, pieces-last, before-le}
 use Rattle.grammar.proofs.WriteRead.{next-line}
-use Rattle.texts.specs.Fill.{Surveyed}
+use Rattle.table_lines.specs.Fill.{Surveyed}
 
 -- ---- the lines from a place on
 

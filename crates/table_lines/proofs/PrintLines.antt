@@ -19,7 +19,7 @@ use Rattle.checks.specs.Model.{lent}
 use Rattle.bits.specs.Counted.{listed}
 use Rattle.grammar.specs.Print.{Line, rowLine, recordLine, lineText, linesText, lineRow, rowLines, recordLines}
 use Rattle.lines.proofs.PutLines.{rowText, recordText}
-use Rattle.texts.specs.Print.{RecordsFit}
+use Rattle.table_lines.specs.Print.{RecordsFit}
 
 -- ---- the lines of a table
 

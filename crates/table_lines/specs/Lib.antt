@@ -1,0 +1,3 @@
+-- The definitions of `table_lines`.
+pub mod Fill
+pub mod Print
