@@ -12,7 +12,6 @@ ghost use Rattle.lines.specs.Model.{lies};
 ghost use Rattle.texts.specs.Model.{bytesModel, writeLeft, readLeft};
 use checks::Refusal;
 use checks::Verdict;
-use checks::check_table;
 use checks::refusals::BUFFER;
 use checks::refusals::LENGTHS;
 use checks::refusals::LINE;
@@ -31,6 +30,7 @@ use lines::edition::opening_of;
 use operations::RECORD_WORDS;
 use print::put_records;
 use print::put_rows;
+use table_checks::check_table;
 
 mod fill; // fill.rt: the two passes of read
 pub mod limits; // limits.rt: numbers that 01 sets
