@@ -6,4 +6,3 @@ pub mod Rules
 pub mod VerdictParts
 pub mod Naming
 pub mod Recording
-pub mod Counts

@@ -1,17 +1,15 @@
--- Checks 9 and 10 of a record, and the record checks with and without 10. Assumes nothing.
+-- Checks 9 and 10 of a record. Assumes nothing.
 use mathlib.Core.Path.{_≡_, refl}
 use mathlib.Core.Bool.{Bool, true, false, not}
-use mathlib.Core.List.{List, [], _∷_, append-nil}
-use Prim.Native.Nat.{ℕ, zero, suc}
+use mathlib.Core.List.{List, [], _∷_}
+use Prim.Native.Nat.{ℕ}
 use borrow.Author.Tests.{eq-eqb, ne-eqb}
 use lib.ListN.{getD}
 use Rattle.operations.specs.declared.Record.{Record}
-use Rattle.operations.specs.Record.{wordsOf, fault, recordFaults, lockFault}
-use Rattle.checks.specs.Check.{done, refused, Check, verdict, placed, rising}
-use Rattle.checks.specs.Table.{Table, recordCount, recordOf}
-use Rattle.checks.specs.Checks.{recordChecks}
+use Rattle.operations.specs.Record.{wordsOf, fault, lockFault}
+use Rattle.checks.specs.Check.{done, refused, verdict, placed}
 use Rattle.checks.specs.Model.{judged}
-use Rattle.checks.specs.Encoding.{lockWith, recordWith, recordsWith}
+use Rattle.checks.specs.Encoding.{lockWith}
 
 -- ---- check 9
 
@@ -36,15 +34,3 @@ lock-open b locks r i e h = rw e (simp (ne-eqb (getD locks (r .t) 0) 1 h))
 pub lock-unasked : (b : Bool) (locks : List ℕ) (r : Record) (i : ℕ) → b ≡ false → judged (lockWith b locks (wordsOf r) i) ≡ done tt
 unfolding verdict
 lock-unasked b locks r i e = rw e refl
-
--- ---- with check 10, and without it
-
-rising-ext : (f g : ℕ → List Check) (i n : ℕ) → ((j : ℕ) → f j ≡ g j) → rising f i n ≡ rising g i n
-unfolding rising
-rising-ext f g i zero e = refl
-rising-ext f g i (suc n) e = let h = e i in let t = rising-ext f g (suc i) n e in cc
-
-pub records-closed : (t : Table) → recordsWith false t ≡ recordChecks t
-records-closed t =
-    rising-ext (recordWith false t) (λ i. placed i (recordFaults (t .widths) (recordOf t i))) 0 (recordCount t)
-    (λ i. append-nil (placed i (recordFaults (t .widths) (recordOf t i))))

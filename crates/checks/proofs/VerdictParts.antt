@@ -5,20 +5,13 @@ use Prim.Native.Nat.{ℕ, suc, _+_, _-_, _^_, _≤_, _<_}
 use native.Mathlib.Nat.{sub-zero}
 use native.Mathlib.Numerals.{add-one}
 use native.Mathlib.Omega.{arith}
-use lib.Dec.{eqb, nltb→le, eqb→eq}
-use lib.ListN.{length}
 use lib.Pow.{pow-pos}
-use Rattle.bits.proofs.Bools.{T-not-not}
 use Rattle.checks.specs.declared.Refusal.{Refusal}
 use Rattle.checks.specs.declared.Verdict.{Verdict}
 use Rattle.checks.specs.declared.Verdict.the-variants.{Passed as Clear, Refused}
-use Rattle.checks.specs.Check.{Answer, done, refused, Check, verdict, placed, rising, Passed}
-use Rattle.checks.specs.Limits.{rowLimit}
-use Rattle.checks.specs.Table.{Table}
-use Rattle.checks.specs.Checks.{rowShapeFaults, wordFaults}
-use Rattle.checks.specs.Encoding.{RowSlices, headChecks}
+use Rattle.checks.specs.Check.{Answer, done, refused, Check, verdict, rising}
 use Rattle.checks.specs.Model.{verdictModel, judged}
-use Rattle.checks.proofs.Verdicts.{passed-left, passed-of-done, verdict-passed, verdict-refused}
+use Rattle.checks.proofs.Verdicts.{passed-of-done, verdict-passed, verdict-refused}
 
 module _ (r : Verdict) (cs ds : List Check) (e : verdictModel r ≡ judged cs) where
   -- a part that is clear leaves the verdict to the rest
@@ -64,18 +57,3 @@ over-mask w f m e h = omega (arith, pow-pos w)
 
 pub under-mask : (w f m : ℕ) → f ≡ 2 ^ w - 1 → m ≤ f → m < 2 ^ w
 under-mask w f m e h = omega (arith, pow-pos w)
-
--- ---- what the first checks leave
-
-pub slices-of-shape : (t : Table) → Passed (placed 0 (rowShapeFaults t)) → (length (t .widths) ≤ rowLimit) × RowSlices (t .widths) (t .locks) (t .masks) (t .values)
-slices-of-shape t P = (
-  nltb→le _ _ (P .1 .0),
-  record {
-    locks-length = eqb→eq _ _ (T-not-not (eqb (length (t .locks)) (length (t .widths))) (P .1 .1 .0));
-    masks-length = eqb→eq _ _ (T-not-not (eqb (length (t .masks)) (length (t .widths))) (P .1 .1 .1 .0));
-    values-length = eqb→eq _ _ (T-not-not (eqb (length (t .values)) (length (t .widths))) (P .1 .1 .1 .1 .0));
-  },
-)
-
-pub slices-of-head : (t : Table) → judged (headChecks t) ≡ done tt → (length (t .widths) ≤ rowLimit) × RowSlices (t .widths) (t .locks) (t .masks) (t .values)
-slices-of-head t e = slices-of-shape t (passed-left (placed 0 (rowShapeFaults t)) (placed 0 (wordFaults t)) (passed-of-done (headChecks t) tt tt e))

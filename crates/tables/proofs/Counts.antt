@@ -13,7 +13,7 @@ use Rattle.checks.specs.Table.{Table, rowAt, startOf}
 use Rattle.checks.specs.Checks.{countChecks}
 use Rattle.checks.specs.Model.{judged}
 use Rattle.checks.proofs.Verdicts.{done-of-passed, passed-of-done}
-use Rattle.checks.proofs.Counts.{row-good}
+use Rattle.table_checks.proofs.Counts.{row-good}
 use Rattle.tables.specs.Run.{Count, countOf}
 
 module _ (t : Table) (i : ℕ) (e : judged (countChecks t i) ≡ done tt) where

@@ -8,10 +8,10 @@ ghost use Rattle.tables.specs.Known.{Demand2};
 ghost use Rattle.tables.specs.Demand.{Demand3};
 use checks::Refusal;
 use checks::Verdict;
-use checks::check_count;
-use checks::check_run;
 use operations::RECORD_WORDS;
 use stepping::step_all;
+use table_checks::check_count;
+use table_checks::check_run;
 ghost use Rattle.tables.specs.Model.{held, runModel, ran, countModel};
 
 mod stepping; // stepping.rt: what records do to the rows

@@ -8,7 +8,7 @@ use Rattle.checks.specs.Table.{Table}
 use Rattle.checks.specs.Checks.{countChecks}
 use Rattle.checks.specs.Model.{lent, judged, verdictModel}
 use Rattle.checks.proofs.Verdicts.{refused-any}
-use Rattle.checks.proofs.Counts.{row-in, row-slices}
+use Rattle.table_checks.proofs.Counts.{row-in, row-slices}
 use Rattle.tables.specs.Run.{countOf}
 use Rattle.tables.proofs.Counts.{count-small, count-is}
 use borrow.Author.Needs.{needs}

@@ -1,13 +1,13 @@
--- `checks::check_body` meets its contract: the rows, then the records. Assumes nothing.
+-- `table_checks::check_body` meets its contract: the rows, then the records. Assumes nothing.
 use mathlib.Core.Path.{sym, ap, _∙_}
 use Rattle.checks.specs.Table.{Table}
 use Rattle.checks.specs.Checks.{rowChecks}
 use Rattle.checks.specs.Model.{lent, verdictModel}
 use Rattle.checks.specs.Encoding.{recordsWith}
 use Rattle.checks.proofs.VerdictParts.{goes-on, stops}
 use borrow.Author.Needs.{needs}
-use Rattle.checks.proofs.check_body.Statement.{statement}
-use Rattle.checks.proofs.check_body.Tie as tie
+use Rattle.table_checks.proofs.check_body.Statement.{statement}
+use Rattle.table_checks.proofs.check_body.Tie as tie
 
 abbrev table : tie.Start → Table
 table s = lent (s .args .width .now) (s .args .lock .now) (s .args .mask .now) (s .args .value .now) (s .args .words .now)

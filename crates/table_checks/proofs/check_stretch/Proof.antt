@@ -1,10 +1,10 @@
--- `checks::check_stretch` meets its contract: check 3 of the stretch, test by test. Assumes nothing.
+-- `table_checks::check_stretch` meets its contract: check 3 of the stretch, test by test. Assumes nothing.
 use mathlib.Core.Path.{sym, _∙_}
 use Rattle.checks.proofs.Verdicts.{hits, skips, clears}
 use borrow.Author.Tests.{lt-ltb, le-ltb}
 use borrow.Author.Needs.{needs}
-use Rattle.checks.proofs.check_stretch.Statement.{statement}
-use Rattle.checks.proofs.check_stretch.Tie as tie
+use Rattle.table_checks.proofs.check_stretch.Statement.{statement}
+use Rattle.table_checks.proofs.check_stretch.Tie as tie
 
 returns : tie.Need-returns
 returns c = c .refuse .ensures ∙ sym (hits _ _ (lt-ltb _ _ (c .before .if1 .taken)))

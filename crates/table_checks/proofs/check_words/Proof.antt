@@ -1,11 +1,11 @@
--- `checks::check_words` meets its contract: check 3 without a stretch, test by test. Assumes nothing.
+-- `table_checks::check_words` meets its contract: check 3 without a stretch, test by test. Assumes nothing.
 use mathlib.Core.Path.{sym, ap, _∙_}
 use mathlib.Core.Bool.{not}
 use Rattle.checks.proofs.Verdicts.{hits, skips, clears}
 use borrow.Author.Tests.{eq-eqb, ne-eqb, lt-ltb, le-ltb}
 use borrow.Author.Needs.{needs}
-use Rattle.checks.proofs.check_words.Statement.{statement}
-use Rattle.checks.proofs.check_words.Tie as tie
+use Rattle.table_checks.proofs.check_words.Statement.{statement}
+use Rattle.table_checks.proofs.check_words.Tie as tie
 
 returns : tie.Need-returns
 returns c = c .refuse .ensures ∙ sym (hits _ _ (ap not (ne-eqb _ _ (c .before .if1 .taken))))

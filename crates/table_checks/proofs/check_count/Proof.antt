@@ -1,17 +1,18 @@
--- `checks::check_count` meets its contract: checks 1 and 2, the rows, then 7 for the row named. Assumes nothing.
+-- `table_checks::check_count` meets its contract: checks 1 and 2, the rows, then 7 for the row named. Assumes nothing.
 use mathlib.Core.Path.{_≡_, sym, ap, _∙_}
 use mathlib.Core.List.{List, [], _∷_, _++_}
 use Rattle.checks.specs.Check.{Check, placed}
 use Rattle.checks.specs.Table.{Table}
 use Rattle.checks.specs.Checks.{rowShapeFaults, rowChecks, countChecks, rowOutside}
 use Rattle.checks.specs.Model.{lent, verdictModel, judged}
 use Rattle.checks.proofs.Verdicts.{passed-of-done, hits, clears}
-use Rattle.checks.proofs.VerdictParts.{goes-on, stops, slices-of-shape}
+use Rattle.checks.proofs.VerdictParts.{goes-on, stops}
+use Rattle.table_checks.proofs.HeadBody.{slices-of-shape}
 use Rattle.operations.specs.Record.{fault}
 use borrow.Author.Tests.{le-leb, lt-leb}
 use borrow.Author.Needs.{needs}
-use Rattle.checks.proofs.check_count.Statement.{statement}
-use Rattle.checks.proofs.check_count.Tie as tie
+use Rattle.table_checks.proofs.check_count.Statement.{statement}
+use Rattle.table_checks.proofs.check_count.Tie as tie
 
 abbrev table : tie.Start → Table
 table s = lent (s .args .width .now) (s .args .lock .now) (s .args .mask .now) (s .args .value .now) []

@@ -5,16 +5,16 @@ use Prim.Native.Nat.{ℕ, _≤_, _<_}
 use lib.Dec.{nleb→lt}
 use lib.ListN.{length}
 use Rattle.operations.specs.Record.{fault}
 use Rattle.checks.specs.Check.{done, Check, placed, Passed}
 use Rattle.checks.specs.Limits.{rowLimit}
 use Rattle.checks.specs.Table.{Table}
 use Rattle.checks.specs.Checks.{rowShapeFaults, rowFaultsAt, rowChecks, rowOutside, countChecks}
 use Rattle.checks.specs.Accepted.{RowPassed}
 use Rattle.checks.specs.Model.{judged}
 use Rattle.checks.specs.Encoding.{RowSlices}
 use Rattle.checks.proofs.Verdicts.{passed-left, passed-right, rising-elim, passed-of-done}
 use Rattle.checks.proofs.RowChecks.{row-of-passed}
-use Rattle.checks.proofs.VerdictParts.{slices-of-shape}
+use Rattle.table_checks.proofs.HeadBody.{slices-of-shape}
 
 module _ (t : Table) (i : ℕ) (e : judged (countChecks t i) ≡ done tt) where
   abbrev shape : List Check

@@ -1,15 +1,15 @@
--- `checks::check_table` meets its contract: the first checks, then rows and records. Assumes nothing.
+-- `table_checks::check_table` meets its contract: the first checks, then rows and records. Assumes nothing.
 use mathlib.Core.Path.{sym, ap, _∙_}
 use mathlib.Core.List.{_++_}
 use Rattle.checks.specs.Table.{Table}
 use Rattle.checks.specs.Checks.{rowChecks, recordChecks, sizeChecks}
 use Rattle.checks.specs.Model.{lent, verdictModel, judged}
 use Rattle.checks.specs.Encoding.{headChecks}
-use Rattle.checks.proofs.VerdictParts.{goes-on, stops, slices-of-head}
-use Rattle.checks.proofs.Recording.{records-closed}
+use Rattle.checks.proofs.VerdictParts.{goes-on, stops}
+use Rattle.table_checks.proofs.HeadBody.{slices-of-head, records-closed}
 use borrow.Author.Needs.{needs}
-use Rattle.checks.proofs.check_table.Statement.{statement}
-use Rattle.checks.proofs.check_table.Tie as tie
+use Rattle.table_checks.proofs.check_table.Statement.{statement}
+use Rattle.table_checks.proofs.check_table.Tie as tie
 
 abbrev table : tie.Start → Table
 table s = lent (s .args .width .now) (s .args .lock .now) (s .args .mask .now) (s .args .value .now) (s .args .words .now)

@@ -1,16 +1,17 @@
--- `checks::check_run` meets its contract: the first checks, the stretch, then rows and records. Assumes nothing.
+-- `table_checks::check_run` meets its contract: the first checks, the stretch, then rows and records. Assumes nothing.
 use mathlib.Core.Path.{_≡_, sym, ap, _∙_}
 use mathlib.Core.Bool.{true}
 use mathlib.Core.List.{List, _++_}
 use Rattle.checks.specs.Check.{Check, placed}
 use Rattle.checks.specs.Table.{Table}
 use Rattle.checks.specs.Checks.{stretchFaults, runChecks}
 use Rattle.checks.specs.Model.{lent, verdictModel, judged}
 use Rattle.checks.specs.Encoding.{headChecks, bodyChecks}
-use Rattle.checks.proofs.VerdictParts.{goes-on, stops, slices-of-head}
+use Rattle.checks.proofs.VerdictParts.{goes-on, stops}
+use Rattle.table_checks.proofs.HeadBody.{slices-of-head}
 use borrow.Author.Needs.{needs}
-use Rattle.checks.proofs.check_run.Statement.{statement}
-use Rattle.checks.proofs.check_run.Tie as tie
+use Rattle.table_checks.proofs.check_run.Statement.{statement}
+use Rattle.table_checks.proofs.check_run.Tie as tie
 
 abbrev table : tie.Start → Table
 table s = lent (s .args .width .now) (s .args .lock .now) (s .args .mask .now) (s .args .value .now) (s .args .words .now)

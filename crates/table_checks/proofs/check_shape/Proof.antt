@@ -1,17 +1,17 @@
--- `checks::check_shape` meets its contract: checks 1 and 2, test by test. Assumes nothing.
+-- `table_checks::check_shape` meets its contract: checks 1 and 2, test by test. Assumes nothing.
 use mathlib.Core.Path.{_≡_, sym, ap, _∙_}
 use mathlib.Core.Bool.{not}
 use mathlib.Core.List.{[]}
 use Prim.Native.Nat.{ℕ}
 use lib.ListN.{drop}
 use Rattle.checks.specs.Check.{Answer, placed}
 use Rattle.checks.specs.Checks.{rowShapeFaults}
 use Rattle.checks.specs.Model.{lent, judged}
 use Rattle.checks.proofs.Verdicts.{hits, skips, clears}
 use borrow.Author.Tests.{eq-eqb, ne-eqb, lt-ltb, le-ltb}
 use borrow.Author.Needs.{needs}
-use Rattle.checks.proofs.check_shape.Statement.{statement}
-use Rattle.checks.proofs.check_shape.Tie as tie
+use Rattle.table_checks.proofs.check_shape.Statement.{statement}
+use Rattle.table_checks.proofs.check_shape.Tie as tie
 
 -- the verdict on the conditions after the first k
 abbrev after : tie.Start → ℕ → Answer (Unit {0})

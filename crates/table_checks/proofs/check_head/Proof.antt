@@ -1,14 +1,14 @@
--- `checks::check_head` meets its contract: checks 1 and 2, then 3. Assumes nothing.
+-- `table_checks::check_head` meets its contract: checks 1 and 2, then 3. Assumes nothing.
 use mathlib.Core.Path.{sym, ap, _∙_}
 use mathlib.Core.List.{List}
 use Rattle.checks.specs.Check.{Check, placed}
 use Rattle.checks.specs.Table.{Table}
 use Rattle.checks.specs.Checks.{rowShapeFaults, wordFaults}
 use Rattle.checks.specs.Model.{lent, verdictModel}
 use Rattle.checks.proofs.VerdictParts.{goes-on, stops}
 use borrow.Author.Needs.{needs}
-use Rattle.checks.proofs.check_head.Statement.{statement}
-use Rattle.checks.proofs.check_head.Tie as tie
+use Rattle.table_checks.proofs.check_head.Statement.{statement}
+use Rattle.table_checks.proofs.check_head.Tie as tie
 
 abbrev table : tie.Start → Table
 table s = lent (s .args .width .now) (s .args .lock .now) (s .args .mask .now) (s .args .value .now) (s .args .words .now)
