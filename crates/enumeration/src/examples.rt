@@ -1,13 +1,13 @@
 // The unstarred examples that need no text (01, "Worked examples").
-use crate::choices::Row;
 use crate::counting::Tally;
 use crate::counting::joined;
 use crate::counting::none;
 use crate::counting::one;
-use crate::shapes::Shape;
 use crate::trials::Rows;
 use crate::trials::answers;
 use crate::trials::makes;
+use oracle::choices::Row;
+use oracle::shapes::Shape;
 
 // A row's mask and value.
 fn row(mask: u32, value: u32) -> Row {

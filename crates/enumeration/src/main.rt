@@ -9,14 +9,10 @@ use report::print_kind;
 use report::print_line;
 use sweeps::sweep;
 
-mod choices; // choices.rt: the choices of covered operands, and the bits they give
 mod counting; // counting.rt: tables tried and tables that disagree
 mod examples; // examples.rt: worked examples
-mod numbers; // numbers.rt: powers of two, bits and products
-mod plain; // plain.rt: each kind on plain numbers
 mod product_bits; // product_bits.rt: every bit of every product
 mod report; // report.rt: the lines of the output
-mod shapes; // shapes.rt: kinds, widths and parameters that fit together
 mod sweeps; // sweeps.rt: all tables of a kind
 mod trials; // trials.rt: one table, run and compared
 

@@ -1,13 +1,13 @@
 // One table of four rows and one record: run, and compared.
 ghost use mathlib.Core.Path.{_≡_};
 ghost use lib.ListN.{length};
-ghost use Rattle.enumeration.specs.Sizes.{Sized};
-use crate::choices::Row;
-use crate::choices::enumerated;
-use crate::numbers::byte;
-use crate::numbers::word;
-use crate::shapes::Shape;
-use crate::shapes::uses_second;
+ghost use Rattle.oracle.specs.Sizes.{Sized};
+use oracle::choices::Row;
+use oracle::choices::enumerated;
+use oracle::numbers::byte;
+use oracle::numbers::word;
+use oracle::shapes::Shape;
+use oracle::shapes::uses_second;
 use tables::RunAnswer;
 
 // The rows: 0 and 1 the operands, 2 the condition, 3 the target.
