@@ -3,10 +3,6 @@ ghost use Prim.Native.Nat.{_≤_};
 ghost use Rattle.bits.specs.Limits.{widthLimit};
 ghost use Rattle.oracle.specs.Sizes.{Sized};
 ghost use Rattle.vectors.specs.Row.{row, WellFormed};
-use crate::counting::Tally;
-use crate::counting::joined;
-use crate::counting::none;
-use crate::counting::one;
 use crate::sweeps::pair;
 use crate::sweeps::pairs;
 use crate::sweeps::well_formed;
@@ -15,6 +11,10 @@ use oracle::choices::enumerated;
 use oracle::numbers::bit;
 use oracle::shapes::Shape;
 use products::product_bit;
+use trials::counting::Tally;
+use trials::counting::joined;
+use trials::counting::none;
+use trials::counting::one;
 use vectors::OutputBit;
 
 // mul at width w.

@@ -4,11 +4,6 @@ ghost use mathlib.Core.Path.{_≡_};
 ghost use Prim.Native.Nat.{_≤_, _<_};
 ghost use Rattle.vectors.specs.Row.{row, WellFormed};
 ghost use Rattle.oracle.specs.Sizes.{Sized};
-use crate::counting::Tally;
-use crate::counting::joined;
-use crate::counting::none;
-use crate::counting::one;
-use crate::trials::agrees;
 use oracle::choices::Row;
 use oracle::numbers::power;
 use oracle::numbers::word;
@@ -16,6 +11,11 @@ use oracle::shapes::Shape;
 use oracle::shapes::fits;
 use oracle::shapes::uses_condition;
 use oracle::shapes::uses_second;
+use trials::agrees;
+use trials::counting::Tally;
+use trials::counting::joined;
+use trials::counting::none;
+use trials::counting::one;
 
 // How many pairs of numbers below 2^w there are: 4^w. One where the row is not used.
 pub fn pairs(used: bool, w: u64) -> u64
