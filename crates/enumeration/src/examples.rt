@@ -1,13 +1,14 @@
 // The unstarred examples that need no text (01, "Worked examples").
-use crate::choices::Row;
-use crate::counting::Tally;
-use crate::counting::joined;
-use crate::counting::none;
-use crate::counting::one;
-use crate::shapes::Shape;
-use crate::trials::Rows;
-use crate::trials::answers;
-use crate::trials::makes;
+use oracle::choices::Row;
+use oracle::shapes::Shape;
+use trials::Rows;
+use trials::answers;
+use trials::counting::Tally;
+use trials::counting::joined;
+use trials::counting::none;
+use trials::counting::one;
+use trials::makes;
+use trials::table;
 
 // A row's mask and value.
 fn row(mask: u32, value: u32) -> Row {
@@ -18,14 +19,9 @@ fn row(mask: u32, value: u32) -> Row {
 }
 
 // A first operand and a target, and zeros.
-fn rows(a: Row, t: Row) -> Rows {
+fn operand_and_target(a: Row, t: Row) -> Rows {
     let zero = row(0, 0);
-    Rows {
-        a: a,
-        b: zero,
-        c: zero,
-        t: t,
-    }
+    table(a, zero, zero, t)
 }
 
 // Whether a record of one width whose operand words name row 0, which is a, makes the target's row end of start, or is refused with this number where it
@@ -38,7 +34,9 @@ fn gives(kind: u64, w: u64, p: u64, a: Row, start: Row, end: Row, number: u32) -
         wb: 1,
         p: p,
     };
-    one(makes(s, 0, rows(a, start), rows(a, end), number))
+    let before = operand_and_target(a, start);
+    let after = operand_and_target(a, end);
+    one(makes(s, 0, before, after, number))
 }
 
 // rotl 0X1 by 4 = X10.

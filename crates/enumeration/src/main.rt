@@ -1,24 +1,18 @@
 // The executed tests: every vector pair to width 4, through the public run on real tables, against plain enumeration of all choices.
 // The output has a line for each kind, then one for `product_bit`, one for the examples and the total: the name, the tables tried (for `product_bit` the
 // bits), those that disagree.
-use counting::joined;
-use counting::none;
 use examples::examples;
 use product_bits::product_bits;
 use report::print_kind;
 use report::print_line;
 use sweeps::sweep;
+use trials::counting::joined;
+use trials::counting::none;
 
-mod choices; // choices.rt: the choices of covered operands, and the bits they give
-mod counting; // counting.rt: tables tried and tables that disagree
 mod examples; // examples.rt: worked examples
-mod numbers; // numbers.rt: powers of two, bits and products
-mod plain; // plain.rt: each kind on plain numbers
 mod product_bits; // product_bits.rt: every bit of every product
 mod report; // report.rt: the lines of the output
-mod shapes; // shapes.rt: kinds, widths and parameters that fit together
 mod sweeps; // sweeps.rt: all tables of a kind
-mod trials; // trials.rt: one table, run and compared
 
 fn main() {
     let mut total = none();

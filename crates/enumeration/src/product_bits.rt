@@ -1,20 +1,20 @@
 // Every bit of every product to width 4, through `product_bit` itself: `mul` works out few columns by it, and none at these widths.
 ghost use Prim.Native.Nat.{_≤_};
 ghost use Rattle.bits.specs.Limits.{widthLimit};
-ghost use Rattle.enumeration.specs.Sizes.{Sized};
+ghost use Rattle.oracle.specs.Sizes.{Sized};
 ghost use Rattle.vectors.specs.Row.{row, WellFormed};
-use crate::choices::Row;
-use crate::choices::enumerated;
-use crate::counting::Tally;
-use crate::counting::joined;
-use crate::counting::none;
-use crate::counting::one;
-use crate::numbers::bit;
-use crate::shapes::Shape;
 use crate::sweeps::pair;
 use crate::sweeps::pairs;
 use crate::sweeps::well_formed;
+use oracle::choices::Row;
+use oracle::choices::enumerated;
+use oracle::numbers::bit;
+use oracle::shapes::Shape;
 use products::product_bit;
+use trials::counting::Tally;
+use trials::counting::joined;
+use trials::counting::none;
+use trials::counting::one;
 use vectors::OutputBit;
 
 // mul at width w.

@@ -1,7 +1,7 @@
 // The lines of the output.
 ghost use Prim.Native.Nat.{_≤_, _<_};
 ghost use lib.ListN.{length};
-use crate::counting::Tally;
+use trials::counting::Tally;
 
 // Where the word that starts at a place ends: before a space, or with the text.
 fn word_end(text: &[u8], at: usize) -> usize

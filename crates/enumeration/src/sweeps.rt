@@ -3,19 +3,19 @@ ghost use mathlib.Core.Bool.{true};
 ghost use mathlib.Core.Path.{_≡_};
 ghost use Prim.Native.Nat.{_≤_, _<_};
 ghost use Rattle.vectors.specs.Row.{row, WellFormed};
-ghost use Rattle.enumeration.specs.Sizes.{Sized};
-use crate::choices::Row;
-use crate::counting::Tally;
-use crate::counting::joined;
-use crate::counting::none;
-use crate::counting::one;
-use crate::numbers::power;
-use crate::numbers::word;
-use crate::shapes::Shape;
-use crate::shapes::fits;
-use crate::shapes::uses_condition;
-use crate::shapes::uses_second;
-use crate::trials::agrees;
+ghost use Rattle.oracle.specs.Sizes.{Sized};
+use oracle::choices::Row;
+use oracle::numbers::power;
+use oracle::numbers::word;
+use oracle::shapes::Shape;
+use oracle::shapes::fits;
+use oracle::shapes::uses_condition;
+use oracle::shapes::uses_second;
+use trials::agrees;
+use trials::counting::Tally;
+use trials::counting::joined;
+use trials::counting::none;
+use trials::counting::one;
 
 // How many pairs of numbers below 2^w there are: 4^w. One where the row is not used.
 pub fn pairs(used: bool, w: u64) -> u64

@@ -1,8 +1,8 @@
--- `enumeration::choices::of_condition` is safe and ends. Both numbers of one bit are tried: z is at most 2. Assumes nothing.
+-- `oracle::choices::of_condition` is safe and ends. Both numbers of one bit are tried: z is at most 2. Assumes nothing.
 use Prim.Native.Nat.{_≤_, _-_}
 use borrow.Author.Needs.{needs}
-use Rattle.enumeration.proofs.choices.of_condition.Statement.{statement}
-use Rattle.enumeration.proofs.choices.of_condition.Tie as tie
+use Rattle.oracle.proofs.choices.of_condition.Statement.{statement}
+use Rattle.oracle.proofs.choices.of_condition.Tie as tie
 
 abbrev Inv-loop : tie.InvT-loop
 Inv-loop s x y c full seen₀ z₀ seen z = z ≤ 2

@@ -2,7 +2,7 @@
 ghost use Prim.Native.Nat.{_^_, _≤_, _<_};
 ghost use Rattle.bits.specs.Limits.{widthLimit};
 ghost use Rattle.operations.specs.Limits.{parameterLimit};
-ghost use Rattle.enumeration.specs.Sizes.{Sized};
+ghost use Rattle.oracle.specs.Sizes.{Sized};
 use crate::numbers::bit;
 use crate::numbers::least;
 use crate::numbers::power;

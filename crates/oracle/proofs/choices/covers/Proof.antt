@@ -1,17 +1,17 @@
--- `enumeration::plain::copied` is safe and ends. The bits below k are placed, and k is at most n. Assumes nothing.
+-- `oracle::choices::covers` is safe and ends. The bits below k are passed, and k is at most the width. Assumes nothing.
 use Prim.Native.Nat.{_≤_, _-_}
 use borrow.Author.Needs.{needs}
-use Rattle.enumeration.proofs.plain.copied.Statement.{statement}
-use Rattle.enumeration.proofs.plain.copied.Tie as tie
+use Rattle.oracle.proofs.choices.covers.Statement.{statement}
+use Rattle.oracle.proofs.choices.covers.Tie as tie
 
 abbrev Inv-loop : tie.InvT-loop
-Inv-loop n w p a r₀ k₀ r k = k ≤ n
+Inv-loop w x mask value k₀ k = k ≤ w
 
 abbrev μ-loop : tie.MeasureT-loop
-μ-loop n w p a r₀ k₀ r k = n - k
+μ-loop w x mask value k₀ k = w - k
 
-pub copied-spec : {M : Type 1} → statement M
-copied-spec =
+pub covers-spec : {M : Type 1} → statement M
+covers-spec =
     tie.close
     (tie.spec
     Inv-loop
@@ -19,6 +19,7 @@ copied-spec =
     (λ c. search needs)
     (λ c. search needs)
     (λ c. search needs)
+    (λ c κs. search needs)
     (λ c κs. search needs)
     (λ c κs. search needs)
     (λ c. search needs)

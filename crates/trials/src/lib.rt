@@ -1,21 +1,29 @@
 // One table of four rows and one record: run, and compared.
 ghost use mathlib.Core.Path.{_≡_};
 ghost use lib.ListN.{length};
-ghost use Rattle.enumeration.specs.Sizes.{Sized};
-use crate::choices::Row;
-use crate::choices::enumerated;
-use crate::numbers::byte;
-use crate::numbers::word;
-use crate::shapes::Shape;
-use crate::shapes::uses_second;
+ghost use Rattle.oracle.specs.Sizes.{Sized};
+use oracle::choices::Row;
+use oracle::choices::enumerated;
+use oracle::numbers::byte;
+use oracle::numbers::word;
+use oracle::shapes::Shape;
+use oracle::shapes::uses_second;
 use tables::RunAnswer;
 
-// The rows: 0 and 1 the operands, 2 the condition, 3 the target.
+pub mod counting; // counting.rt: tables tried and tables that disagree
+
+// The rows' masks and values: 0 and 1 the operands, 2 the condition, 3 the target.
 pub struct Rows {
-    pub a: Row,
-    pub b: Row,
-    pub c: Row,
-    pub t: Row,
+    pub mask: [u32; 4],
+    pub value: [u32; 4],
+}
+
+// The rows, one by one.
+pub fn table(a: Row, b: Row, c: Row, t: Row) -> Rows {
+    Rows {
+        mask: [a.mask, b.mask, c.mask, t.mask],
+        value: [a.value, b.value, c.value, t.value],
+    }
 }
 
 // The rows' widths.
@@ -53,18 +61,16 @@ pub fn answers(answer: RunAnswer, number: u32) -> bool {
     }
 }
 
-// Whether the words are these.
-fn same(words: &[u32; 4], a: u32, b: u32, c: u32, t: u32) -> bool {
-    if words[0] != a {
-        return false;
+// Whether the words are the same.
+fn same(a: &[u32; 4], b: &[u32; 4]) -> bool {
+    let mut k: usize = 0;
+    while k < 4 {
+        if a[k] != b[k] {
+            return false;
+        }
+        k += 1;
     }
-    if words[1] != b {
-        return false;
-    }
-    if words[2] != c {
-        return false;
-    }
-    words[3] == t
+    true
 }
 
 // Whether run makes the rows after of those before, or refuses with this number where it is not 0.
@@ -72,33 +78,18 @@ pub fn makes(s: Shape, second: u32, before: Rows, after: Rows, number: u32) -> b
     let width = widths(s);
     let words = record(s, second);
     let lock = [0u8; 4];
-    let mut mask = [before.a.mask, before.b.mask, before.c.mask, before.t.mask];
-    let mut value = [
-        before.a.value,
-        before.b.value,
-        before.c.value,
-        before.t.value,
-    ];
+    let mut mask = before.mask;
+    let mut value = before.value;
     let answer = tables::run(&width, &lock, &mut mask, &mut value, &words, 0, 1);
     if !answers(answer, number) {
         return false;
     }
-    if !same(
-        &mask,
-        after.a.mask,
-        after.b.mask,
-        after.c.mask,
-        after.t.mask,
-    ) {
+    let end = after.mask;
+    if !same(&mask, &end) {
         return false;
     }
-    same(
-        &value,
-        after.a.value,
-        after.b.value,
-        after.c.value,
-        after.t.value,
-    )
+    let end = after.value;
+    same(&value, &end)
 }
 
 // Whether run and the enumeration agree on the target, and the other rows stay. At the start bit 0 of the target is known where the result's is unknown, and
@@ -111,18 +102,8 @@ pub fn agrees(s: Shape, a: Row, b: Row, c: Row) -> bool
         mask: 1 - result.mask % 2,
         value: 0,
     };
-    let before = Rows {
-        a: a,
-        b: b,
-        c: c,
-        t: start,
-    };
-    let after = Rows {
-        a: a,
-        b: b,
-        c: c,
-        t: result,
-    };
+    let before = table(a, b, c, start);
+    let after = table(a, b, c, result);
     if uses_second(s.kind) {
         return makes(s, 1, before, after, 0);
     }

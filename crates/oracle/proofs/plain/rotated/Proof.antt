@@ -1,10 +1,10 @@
--- `enumeration::plain::rotated` is safe and ends. The bits below k are placed, and k is at most the width; a remainder by the width is below it. Assumes nothing.
+-- `oracle::plain::rotated` is safe and ends. The bits below k are placed, and k is at most the width; a remainder by the width is below it. Assumes nothing.
 use native.Mathlib.Omega.{arith}
 use native.Mathlib.Nat.{mod-lt}
 use Prim.Native.Nat.{_+_, _≤_, _-_}
 use borrow.Author.Needs.{needs}
-use Rattle.enumeration.proofs.plain.rotated.Statement.{statement}
-use Rattle.enumeration.proofs.plain.rotated.Tie as tie
+use Rattle.oracle.proofs.plain.rotated.Statement.{statement}
+use Rattle.oracle.proofs.plain.rotated.Tie as tie
 
 abbrev Inv-loop : tie.InvT-loop
 Inv-loop w p a r₀ k₀ r k = k ≤ w

@@ -1,17 +1,17 @@
--- `enumeration::choices::of_second` is safe and ends. The numbers below 2^wb are tried: y is at most that. Assumes nothing.
+-- `oracle::choices::of_all` is safe and ends. The numbers below 2^wa are tried: x is at most that. Assumes nothing.
 use Prim.Native.Nat.{_≤_, _-_}
 use borrow.Author.Needs.{needs}
-use Rattle.enumeration.proofs.choices.of_second.Statement.{statement}
-use Rattle.enumeration.proofs.choices.of_second.Tie as tie
+use Rattle.oracle.proofs.choices.of_all.Statement.{statement}
+use Rattle.oracle.proofs.choices.of_all.Tie as tie
 
 abbrev Inv-loop : tie.InvT-loop
-Inv-loop s x b c n seen₀ y₀ seen y = y ≤ n
+Inv-loop s a b c n seen₀ x₀ seen x = x ≤ n
 
 abbrev μ-loop : tie.MeasureT-loop
-μ-loop s x b c n seen₀ y₀ seen y = n - y
+μ-loop s a b c n seen₀ x₀ seen x = n - x
 
-pub of-second-spec : {M : Type 1} → statement M
-of-second-spec =
+pub of-all-spec : {M : Type 1} → statement M
+of-all-spec =
     tie.close
     (tie.spec
     Inv-loop

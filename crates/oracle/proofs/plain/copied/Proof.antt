@@ -1,17 +1,17 @@
--- `enumeration::choices::covers` is safe and ends. The bits below k are passed, and k is at most the width. Assumes nothing.
+-- `oracle::plain::copied` is safe and ends. The bits below k are placed, and k is at most n. Assumes nothing.
 use Prim.Native.Nat.{_≤_, _-_}
 use borrow.Author.Needs.{needs}
-use Rattle.enumeration.proofs.choices.covers.Statement.{statement}
-use Rattle.enumeration.proofs.choices.covers.Tie as tie
+use Rattle.oracle.proofs.plain.copied.Statement.{statement}
+use Rattle.oracle.proofs.plain.copied.Tie as tie
 
 abbrev Inv-loop : tie.InvT-loop
-Inv-loop w x mask value k₀ k = k ≤ w
+Inv-loop n w p a r₀ k₀ r k = k ≤ n
 
 abbrev μ-loop : tie.MeasureT-loop
-μ-loop w x mask value k₀ k = w - k
+μ-loop n w p a r₀ k₀ r k = n - k
 
-pub covers-spec : {M : Type 1} → statement M
-covers-spec =
+pub copied-spec : {M : Type 1} → statement M
+copied-spec =
     tie.close
     (tie.spec
     Inv-loop
@@ -19,7 +19,6 @@ covers-spec =
     (λ c. search needs)
     (λ c. search needs)
     (λ c. search needs)
-    (λ c κs. search needs)
     (λ c κs. search needs)
     (λ c κs. search needs)
     (λ c. search needs)

@@ -1,10 +1,10 @@
--- `enumeration::numbers::power` is safe and ends. 2^k is at most 2^32, so the shift loses no bit. Assumes nothing.
+-- `oracle::numbers::power` is safe and ends. 2^k is at most 2^32, so the shift loses no bit. Assumes nothing.
 use Prim.Native.Nat.{_^_, _≤_}
 use native.Mathlib.Omega.{arith}
 use lib.Pow.{pow-pos, pow-mono}
 use borrow.Author.Needs.{needs}
-use Rattle.enumeration.proofs.numbers.power.Statement.{statement}
-use Rattle.enumeration.proofs.numbers.power.Tie as tie
+use Rattle.oracle.proofs.numbers.power.Statement.{statement}
+use Rattle.oracle.proofs.numbers.power.Tie as tie
 
 shl-result : tie.Need-shl-result
 shl-result c = search needs

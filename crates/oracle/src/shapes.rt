@@ -1,5 +1,5 @@
 // Kinds, widths and parameters that fit together (01, "Records").
-ghost use Rattle.enumeration.specs.Sizes.{Sized};
+ghost use Rattle.oracle.specs.Sizes.{Sized};
 
 // A record's kind and parameter, and the widths of the target, the first and the second operand.
 pub struct Shape {

@@ -1,7 +1,7 @@
 // The choices of covered operands, and the bits that they give (01, "Abstract result"), by plain enumeration.
 ghost use Prim.Native.Nat.{_^_, _≤_, _<_};
 ghost use Rattle.bits.specs.Limits.{widthLimit};
-ghost use Rattle.enumeration.specs.Sizes.{Sized};
+ghost use Rattle.oracle.specs.Sizes.{Sized};
 use crate::numbers::bit;
 use crate::numbers::power;
 use crate::numbers::word;

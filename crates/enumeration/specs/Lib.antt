@@ -1,2 +1,0 @@
--- The definitions of `enumeration`.
-pub mod Sizes

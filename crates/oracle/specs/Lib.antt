@@ -1,0 +1,2 @@
+-- The definitions of `oracle`.
+pub mod Sizes
