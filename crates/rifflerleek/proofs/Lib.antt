@@ -1,4 +1,5 @@
 -- The laws and proofs of `rifflerleek`.
+pub mod Hosted
 pub mod Numbered
 pub mod Runs
 pub mod SizeBounds
