@@ -7,6 +7,7 @@ use examples::examples;
 use product_bits::product_bits;
 use report::print_kind;
 use report::print_line;
+use shapes::KINDS;
 use sweeps::sweep;
 
 mod choices; // choices.rt: the choices of covered operands, and the bits they give
@@ -23,7 +24,7 @@ mod trials; // trials.rt: one table, run and compared
 fn main() {
     let mut total = none();
     let mut kind: u64 = 0;
-    while kind < 21 {
+    while kind < KINDS {
         let tally = sweep(kind);
         print_kind(kind as usize);
         print_line(tally);
