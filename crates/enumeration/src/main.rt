@@ -5,6 +5,7 @@ use examples::examples;
 use product_bits::product_bits;
 use report::print_kind;
 use report::print_line;
+use shapes::KINDS;
 use sweeps::sweep;
 use trials::counting::joined;
 use trials::counting::none;
@@ -17,7 +18,7 @@ mod sweeps; // sweeps.rt: all tables of a kind
 fn main() {
     let mut total = none();
     let mut kind: u64 = 0;
-    while kind < 21 {
+    while kind < KINDS {
         let tally = sweep(kind);
         print_kind(kind as usize);
         print_line(tally);

@@ -26,9 +26,9 @@ fn print_word(text: &[u8], at: usize) {
     }
 }
 
-// The name of a kind. Eight letters of the list belong to each.
+// The name of a kind. Eight letters of the list belong to each, and there is room for 32 kinds.
 pub fn print_kind(kind: usize)
-    requires { ⌜ kind < 21 ⌝ }
+    requires { ⌜ kind < 32 ⌝ }
 {
     print_word(
         b"copy    not     and     or      xor     shl     lshr    ashr    rotl    extract concat  zext    sext    add     sub     neg     mul     eq      ult     slt     ite     ",

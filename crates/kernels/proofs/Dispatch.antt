@@ -2,7 +2,7 @@
 use mathlib.Core.Path.{_≡_, refl, sym, ap, subst, subst₂, _∙_}
 use mathlib.Core.Bool.{not, _&&_}
 use mathlib.Core.List.{List, [], _∷_}
-use Prim.Native.Nat.{ℕ, zero, suc, _<_}
+use Prim.Native.Nat.{ℕ, zero, suc, _≤_}
 use native.Mathlib.Nat.{le-of-suc-le-suc}
 use native.Mathlib.Decide.{ℕ-discrete}
 use native.Mathlib.Omega.{arith}
@@ -17,25 +17,18 @@ use Rattle.operations.specs.Result.{widthsOf, resultOf, Ready}
 
 -- ---- the last arm of a match
 
--- n is none of the numbers below m
+-- n is none of the numbers 1 to m
 abbrev pub Excluded : ℕ → ℕ → Type 0
 Excluded zero n = Unit {0}
-Excluded (suc m) n = Excluded m n × (n ≡ m → ⊥)
+Excluded (suc m) n = Excluded m n × (n ≡ suc m → ⊥)
 
-none-below : (n m : ℕ) → n < m → Excluded m n → ⊥
-none-below n zero h r = omega arith
-none-below n (suc m) h r =
-    elim (ℕ-discrete n m) [
-      | yes e ↦ r .1 e
-      | no d ↦ none-below n m (lt-of-le-ne (le-of-suc-le-suc h) d) (r .0)
-    ]
-
--- the number that is left
-pub only-left : (n m : ℕ) → n < suc m → Excluded m n → n ≡ m
-only-left n m h r =
-    elim (ℕ-discrete n m) [
-      | yes e ↦ e
-      | no d ↦ absurd (none-below n m (lt-of-le-ne (le-of-suc-le-suc h) d) r)
+-- of 0 to m, 0 is left
+pub zero-left : (n m : ℕ) → n ≤ m → Excluded m n → n ≡ 0
+zero-left n zero h r = omega arith
+zero-left n (suc m) h r =
+    elim (ℕ-discrete n (suc m)) [
+      | yes e ↦ absurd (r .1 e)
+      | no d ↦ zero-left n m (le-of-suc-le-suc (lt-of-le-ne h d)) (r .0)
     ]
 
 -- ---- an arm: a kind's operands as its kernel names them

@@ -32,7 +32,6 @@ pub fn apply(
     ensures { λ r. ⌜ row wt (r .mask) (r .value) ≡ resultOf (kindOf kind) wt p (operands (kindOf kind) (row wa ma va) (row wb mb vb) (row 1 mc vc)) ⌝ }
 {
     match kind {
-        0 => movement::copy(wt, ma, va),
         1 => logical::not(wt, ma, va),
         2 => logical::and(wt, ma, va, mb, vb),
         3 => logical::or(wt, ma, va, mb, vb),
@@ -52,6 +51,7 @@ pub fn apply(
         17 => comparison::eq(wa, ma, va, mb, vb),
         18 => comparison::ult(wa, ma, va, mb, vb),
         19 => comparison::slt(wa, ma, va, mb, vb),
-        _ => choice::ite(wt, ma, va, mb, vb, mc, vc),
+        20 => choice::ite(wt, ma, va, mb, vb, mc, vc),
+        _ => movement::copy(wt, ma, va),
     }
 }

@@ -15,10 +15,8 @@ use Rattle.bits.specs.Bit.{bit, digit}
 use Rattle.bits.proofs.Bits.{digit-lt, number-below}
 use Rattle.bits.proofs.Bools.{T-left, T-right}
 use Rattle.vectors.specs.Lists.{All}
+use Rattle.vectors.proofs.Lists.{_⨾_}
 use Rattle.operations.specs.Kind.{asks, Kind, first, second, third}
-use Rattle.operations.specs.Bitwise.{opCopy, opNot, opAnd, opOr, opXor}
-use Rattle.operations.specs.Moves.{opShl, opLshr, opAshr, opRotl, opExtract, opConcat, opZext, opSext}
-use Rattle.operations.specs.Arithmetic.{opAdd, opSub, opNeg, opMul, opEq, opUlt, opSlt, opIte}
 use Rattle.operations.specs.Kinds.{kinds, kindOf}
 use Rattle.operations.proofs.Lookup.{any-kind}
 use Rattle.operations.specs.Result.{Below}
@@ -50,108 +48,46 @@ cond-below : (b : Bool) (x y n : ℕ) → x < n → y < n → cond b x y < n
 cond-below true x y n p q = p
 cond-below false x y n p q = q
 
--- ---- logic and movement
-
-copy-bounded : Bounded opCopy
-unfolding opCopy
-copy-bounded wt p ws ns t c = below-as ws ns c wt 0 t
-
-not-bounded : Bounded opNot
-unfolding opNot
-not-bounded wt p ws ns t c = at-width (2 ^ first ws - 1 - first ns) wt (first ws) t (ones-sub-lt (first ws) (first ns))
-
-and-bounded : Bounded opAnd
-unfolding opAnd
-and-bounded wt p ws ns t c = and-lt wt (first ns) (second ns) (below-as ws ns c wt 0 (T-left (eqb wt (first ws)) _ t)) (below-as ws ns c wt 1 (T-right (eqb wt (first ws)) _ t))
-
-or-bounded : Bounded opOr
-unfolding opOr
-or-bounded wt p ws ns t c = or-lt wt (first ns) (second ns) (below-as ws ns c wt 0 (T-left (eqb wt (first ws)) _ t)) (below-as ws ns c wt 1 (T-right (eqb wt (first ws)) _ t))
-
-xor-bounded : Bounded opXor
-unfolding opXor
-xor-bounded wt p ws ns t c = xor-lt wt (first ns) (second ns) (below-as ws ns c wt 0 (T-left (eqb wt (first ws)) _ t)) (below-as ws ns c wt 1 (T-right (eqb wt (first ws)) _ t))
-
-shl-bounded : Bounded opShl
-unfolding opShl
-shl-bounded wt p ws ns t c = at-width (first ns * 2 ^ p % 2 ^ first ws) wt (first ws) t (mod-lt (first ns * 2 ^ p) (pow-pos (first ws)))
-
-lshr-bounded : Bounded opLshr
-unfolding opLshr
-lshr-bounded wt p ws ns t c = lt-of-le-of-lt (shr-le (first ns) p) (below-as ws ns c wt 0 t)
-
-ashr-bounded : Bounded opAshr
-unfolding opAshr
-ashr-bounded wt p ws ns t c = at-width _ wt (first ws) t (number-below (first ws) _)
-
-rotl-bounded : Bounded opRotl
-unfolding opRotl
-rotl-bounded wt p ws ns t c = at-width _ wt (first ws) t (number-below (first ws) _)
-
-extract-bounded : Bounded opExtract
-unfolding opExtract
-extract-bounded wt p ws ns t c = mod-lt (first ns / 2 ^ p) (pow-pos wt)
-
-concat-bounded : Bounded opConcat
-unfolding opConcat
-concat-bounded wt p ws ns t c =
-    at-width (first ns * 2 ^ second ws + second ns) wt (first ws + second ws) t
-    (subst (λ (m : ℕ). first ns * 2 ^ second ws + second ns < m) (sym (pow-add 2 (first ws) (second ws))) (digits-lt (below-at ws ns c 0) (below-at ws ns c 1)))
-
-zext-bounded : Bounded opZext
-unfolding opZext
-zext-bounded wt p ws ns t c = lt-of-lt-of-le (below-at ws ns c 0) (pow-mono (leb→le (first ws) wt t))
-
-sext-bounded : Bounded opSext
-unfolding opSext
-sext-bounded wt p ws ns t c = number-below wt _
-
--- ---- sums, products, comparison, choice
-
 -- a number modulo 2 ^ wa where all widths are equal
 modulo-below : (n wt : ℕ) (ws : List ℕ) (b : Bool) → T (eqb wt (first ws) && b) → n % 2 ^ first ws < 2 ^ wt
 modulo-below n wt ws b t = at-width (n % 2 ^ first ws) wt (first ws) (T-left (eqb wt (first ws)) b t) (mod-lt n (pow-pos (first ws)))
 
-add-bounded : Bounded opAdd
-unfolding opAdd
-add-bounded wt p ws ns t c = modulo-below (first ns + second ns) wt ws _ t
+-- two operands of the target's width
+both-below : {n : ℕ} (ws ns : List ℕ) → Below ws ns → (wt : ℕ) → T (eqb wt (first ws) && eqb wt (second ws))
+    → (first ns < 2 ^ wt → second ns < 2 ^ wt → n < 2 ^ wt) → n < 2 ^ wt
+both-below ws ns c wt t f = f (below-as ws ns c wt 0 (T-left (eqb wt (first ws)) _ t)) (below-as ws ns c wt 1 (T-right (eqb wt (first ws)) _ t))
 
-sub-bounded : Bounded opSub
-unfolding opSub
-sub-bounded wt p ws ns t c = modulo-below (2 ^ first ws + first ns - second ns) wt ws _ t
+joined-below : (a b v w : ℕ) → a < 2 ^ v → b < 2 ^ w → a * 2 ^ w + b < 2 ^ (v + w)
+joined-below a b v w h g = subst (λ (m : ℕ). a * 2 ^ w + b < m) (sym (pow-add 2 v w)) (digits-lt h g)
 
-neg-bounded : Bounded opNeg
-unfolding opNeg
-neg-bounded wt p ws ns t c = at-width _ wt (first ws) t (mod-lt (2 ^ first ws - first ns) (pow-pos (first ws)))
-
-mul-bounded : Bounded opMul
-unfolding opMul
-mul-bounded wt p ws ns t c = modulo-below (first ns * second ns) wt ws _ t
-
-eq-bounded : Bounded opEq
-unfolding opEq
-eq-bounded wt p ws ns t c = digit-below (eqb (first ws) (second ws)) (eqb (first ns) (second ns)) wt t
-
-ult-bounded : Bounded opUlt
-unfolding opUlt
-ult-bounded wt p ws ns t c = digit-below (eqb (first ws) (second ws)) (ltb (first ns) (second ns)) wt t
-
-slt-bounded : Bounded opSlt
-unfolding opSlt
-slt-bounded wt p ws ns t c =
-    digit-below (eqb (first ws) (second ws)) (ltb (first ns + 2 ^ first ws * bit (second ns) (first ws - 1)) (second ns + 2 ^ first ws * bit (first ns) (first ws - 1))) wt t
-
-ite-bounded : Bounded opIte
-unfolding opIte
-ite-bounded wt p ws ns t c =
-    let u = T-left (eqb wt (first ws) && eqb wt (second ws)) _ t in
-    cond-below (eqb (third ns) 1) (first ns) (second ns) (2 ^ wt) (below-as ws ns c wt 0 (T-left (eqb wt (first ws)) _ u)) (below-as ws ns c wt 1 (T-right (eqb wt (first ws)) _ u))
-
--- ---- every kind
+-- ---- every kind, in the order of the list
 
 pub all-bounded : All Bounded kinds
 unfolding kinds
-all-bounded = (copy-bounded, (not-bounded, (and-bounded, (or-bounded, (xor-bounded, (shl-bounded, (lshr-bounded, (ashr-bounded, (rotl-bounded, (extract-bounded, (concat-bounded, (zext-bounded, (sext-bounded, (add-bounded, (sub-bounded, (neg-bounded, (mul-bounded, (eq-bounded, (ult-bounded, (slt-bounded, (ite-bounded, tt)))))))))))))))))))))
+all-bounded =
+    (λ wt p ws ns t c. below-as ws ns c wt 0 t)
+    ⨾ (λ wt p ws ns t c. at-width _ wt (first ws) t (ones-sub-lt (first ws) (first ns)))
+    ⨾ (λ wt p ws ns t c. both-below ws ns c wt t (and-lt wt (first ns) (second ns)))
+    ⨾ (λ wt p ws ns t c. both-below ws ns c wt t (or-lt wt (first ns) (second ns)))
+    ⨾ (λ wt p ws ns t c. both-below ws ns c wt t (xor-lt wt (first ns) (second ns)))
+    ⨾ (λ wt p ws ns t c. at-width _ wt (first ws) t (mod-lt (first ns * 2 ^ p) (pow-pos (first ws))))
+    ⨾ (λ wt p ws ns t c. lt-of-le-of-lt (shr-le (first ns) p) (below-as ws ns c wt 0 t))
+    ⨾ (λ wt p ws ns t c. at-width _ wt (first ws) t (number-below (first ws) _))
+    ⨾ (λ wt p ws ns t c. at-width _ wt (first ws) t (number-below (first ws) _))
+    ⨾ (λ wt p ws ns t c. mod-lt (first ns / 2 ^ p) (pow-pos wt))
+    ⨾ (λ wt p ws ns t c. at-width _ wt (first ws + second ws) t (joined-below (first ns) (second ns) (first ws) (second ws) (below-at ws ns c 0) (below-at ws ns c 1)))
+    ⨾ (λ wt p ws ns t c. lt-of-lt-of-le (below-at ws ns c 0) (pow-mono (leb→le (first ws) wt t)))
+    ⨾ (λ wt p ws ns t c. number-below wt _)
+    ⨾ (λ wt p ws ns t c. modulo-below (first ns + second ns) wt ws _ t)
+    ⨾ (λ wt p ws ns t c. modulo-below (2 ^ first ws + first ns - second ns) wt ws _ t)
+    ⨾ (λ wt p ws ns t c. at-width _ wt (first ws) t (mod-lt (2 ^ first ws - first ns) (pow-pos (first ws))))
+    ⨾ (λ wt p ws ns t c. modulo-below (first ns * second ns) wt ws _ t)
+    ⨾ (λ wt p ws ns t c. digit-below (eqb (first ws) (second ws)) (eqb (first ns) (second ns)) wt t)
+    ⨾ (λ wt p ws ns t c. digit-below (eqb (first ws) (second ws)) (ltb (first ns) (second ns)) wt t)
+    ⨾ (λ wt p ws ns t c.
+    digit-below (eqb (first ws) (second ws)) (ltb (first ns + 2 ^ first ws * bit (second ns) (first ws - 1)) (second ns + 2 ^ first ws * bit (first ns) (first ws - 1))) wt t)
+    ⨾ (λ wt p ws ns t c. both-below ws ns c wt (T-left (eqb wt (first ws) && eqb wt (second ws)) _ t) (cond-below (eqb (third ns) 1) (first ns) (second ns) (2 ^ wt)))
+    ⨾ tt
 
 -- the kind that a record's word names
 pub kind-bounded : (n : ℕ) → Bounded (kindOf n)

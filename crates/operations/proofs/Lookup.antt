@@ -3,7 +3,7 @@ use mathlib.Core.Path.{_≡_, refl, sym, subst}
 use mathlib.Core.Bool.{Bool, true, false, cond, _&&_, _||_}
 use mathlib.Core.Logic.{_⊎_, inl, inr}
 use mathlib.Core.List.{List, [], _∷_}
-use Prim.Native.Nat.{ℕ, suc, _<_}
+use Prim.Native.Nat.{ℕ, suc, _≤_, _<_}
 use native.Mathlib.Omega.{arith}
 use native.Mathlib.Decide.{decLt}
 use borrow.Author.Tests.{le-leb, lt-leb}
@@ -37,10 +37,10 @@ any-kind P e z n = elim (found P n kinds e) [ inl x ↦ x .0 | inr y ↦ subst P
 
 -- ---- the numbers of kinds are those below kindCount
 
--- the code's constant
-pub count-is : kindCount ≡ 21
+-- a word of 64 bits has a digit of two bits for each
+pub kinds-few : kindCount ≤ 32
 unfolding kindCount
-count-is = refl
+kinds-few = omega arith
 
 lows : List Kind → Bool
 lows [] = true

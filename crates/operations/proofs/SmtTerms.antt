@@ -12,7 +12,7 @@ use native.Mathlib.Omega.{arith}
 use lib.Dec.{T, eqb, eqb→eq, nltb→le, ltb→lt, leb→le}
 use lib.ListN.{getD, drop}
 use Rattle.vectors.specs.Lists.{All}
-use Rattle.vectors.proofs.Lists.{all-imp, all-member}
+use Rattle.vectors.proofs.Lists.{_⨾_, all-imp, all-member}
 use Rattle.operations.specs.Kind.{Kind}
 use Rattle.operations.specs.Moves.{opShl, opLshr, opAshr}
 use Rattle.operations.specs.Kinds.{kinds, numbered, isKind, kindOf}
@@ -27,11 +27,6 @@ use Rattle.operations.proofs.SmtShifts.{shl-is, lshr-is, ashr-is, wide-
 use Rattle.operations.proofs.SmtRotate.{rotl-is}
 use Rattle.operations.proofs.SmtCompare.{eq-is, ult-is, slt-is, ite-is}
 use Rattle.operations.proofs.SmtOperands.{by-operands, by-same, by-both, by-compared, chosen-widths}
-
--- a pair, written in a row
-infixr 1 _⨾_
-_⨾_ : {A B : Type 0} → A → B → A × B
-a ⨾ b = (a, b)
 
 pub terms-kinds : map (λ m. m .kind) terms ≡ kinds
 unfolding terms kinds

@@ -39,7 +39,7 @@ const LENGTHS: u64 = 0b11_11_11_10_11_11_11_11_00_00_10_11_00_00_00_11_11_10_11_
 const LENGTHS_FOURS: u64 = 0b00_00_00_00_00_00_00_00_01_01_01_01_01_01_01_00_00_00_00_00_01;
 
 // The names, by kind, eight bytes to each.
-const NAMES: [u8; 168] =
+const NAMES: [u8; KINDS as usize * 8] =
     *b"copy    not     and     or      xor     shl     lshr    ashr    rotl    extract concat  zext    sext    add     sub     neg     mul     eq      ult     slt     ite     ";
 
 // Whether there is a kind of that number.

@@ -1,6 +1,9 @@
 // Kinds, widths and parameters that fit together (01, "Records").
 ghost use Rattle.oracle.specs.Sizes.{Sized};
 
+// How many kinds there are.
+pub const KINDS: u64 = 21;
+
 // A record's kind and parameter, and the widths of the target, the first and the second operand.
 pub struct Shape {
     pub kind: u64,

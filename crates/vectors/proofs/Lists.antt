@@ -4,6 +4,11 @@ use mathlib.Core.Logic.{inl, inr}
 use mathlib.Core.List.{List, [], _∷_, map, List·Memᴰ, List·Memᴰ·not-nil, List·Memᴰ·cases-cons}
 use Rattle.vectors.specs.Lists.{All, Pointwise}
 
+-- what holds of each element, written in a row
+infixr 1 _⨾_
+pub _⨾_ : {A B : Type 0} → A → B → A × B
+a ⨾ b = (a, b)
+
 pub all-map : {A B : Type 0} {Q : A → Type 0} (P : B → Type 0) (g : A → B) → ((a : A) → Q a → P (g a)) → (l : List A) → All Q l → All P (map g l)
 all-map P g h [] q = tt
 all-map P g h (a ∷ l) q = (h a (q .0), all-map P g h l (q .1))

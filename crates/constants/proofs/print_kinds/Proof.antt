@@ -3,7 +3,7 @@ use Prim.Native.Nat.{_≤_, _-_}
 use native.Mathlib.Omega.{arith}
 use borrow.Author.Needs.{needs}
 use Rattle.operations.specs.Kinds.{kindCount}
-use Rattle.operations.proofs.Lookup.{count-is, below-kind}
+use Rattle.operations.proofs.Lookup.{below-kind}
 use Rattle.constants.proofs.print_kinds.Statement.{statement}
 use Rattle.constants.proofs.print_kinds.Tie as tie
 
@@ -14,9 +14,11 @@ abbrev μ-loop : tie.MeasureT-loop
 μ-loop kind₀ kind = kindCount - kind
 
 print-kind-requires : tie.Need-print-kind-requires Inv-loop μ-loop
-print-kind-requires c κs = below-kind _ (omega (arith, count-is))
+unfolding kindCount
+print-kind-requires c κs = below-kind _ (omega arith)
 
 pub print-kinds-spec : {M : Type 1} → statement M
+unfolding kindCount
 print-kinds-spec =
     tie.close
     (tie.spec
@@ -25,7 +27,7 @@ print-kinds-spec =
     (λ c. omega arith)
     (λ c. search needs)
     print-kind-requires
-    (λ c. omega (arith, count-is))
-    (λ c. omega (arith, count-is))
-    (λ c. omega (arith, count-is))
+    (λ c. omega arith)
+    (λ c. omega arith)
+    (λ c. omega arith)
     (λ c. search needs))

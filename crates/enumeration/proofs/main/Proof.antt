@@ -1,14 +1,14 @@
--- `enumeration::main` is safe and ends. The kinds below kind are printed, and kind is at most 21. Assumes nothing.
+-- `enumeration::main` is safe and ends. The kinds below kind are printed, and kind is at most 32. Assumes nothing.
 use Prim.Native.Nat.{_≤_, _-_}
 use borrow.Author.Needs.{needs}
 use Rattle.enumeration.proofs.main.Statement.{statement}
 use Rattle.enumeration.proofs.main.Tie as tie
 
 abbrev Inv-loop : tie.InvT-loop
-Inv-loop total₀ kind₀ t6 t7 t8 total kind = kind ≤ 21
+Inv-loop total₀ kind₀ t6 t7 t8 total kind = kind ≤ 32
 
 abbrev μ-loop : tie.MeasureT-loop
-μ-loop total₀ kind₀ t6 t7 t8 total kind = 21 - kind
+μ-loop total₀ kind₀ t6 t7 t8 total kind = 32 - kind
 
 pub main-spec : {M : Type 1} → statement M
 main-spec =

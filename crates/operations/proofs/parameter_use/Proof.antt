@@ -1,13 +1,13 @@
 -- `operations::parameter_use` meets its contract: the word computes to the digits of the kinds. Assumes nothing.
 use mathlib.Core.Path.{_∙_}
 use native.Mathlib.Omega.{arith}
-use Rattle.operations.proofs.Lookup.{count-is, kind-below}
+use Rattle.operations.proofs.Lookup.{kinds-few, kind-below}
 use Rattle.operations.proofs.Digits.{digitsOf, parameter-is}
 use Rattle.operations.proofs.parameter_use.Statement.{statement}
 use Rattle.operations.proofs.parameter_use.Tie as tie
 
 digit-requires : tie.Need-digit-requires
-digit-requires c κs = omega (arith, count-is, kind-below (c .args .kind) (c .pre))
+digit-requires c κs = omega (arith, kinds-few, kind-below (c .args .kind) (c .pre))
 
 returns : tie.Need-returns
 unfolding digitsOf

@@ -3,16 +3,16 @@ use mathlib.Core.Path.{ap₂, _∙_}
 use Prim.Native.Nat.{ℕ, _+_, _*_}
 use native.Mathlib.Omega.{arith}
 use borrow.Author.Needs.{needs}
-use Rattle.operations.proofs.Lookup.{count-is, kind-below}
+use Rattle.operations.proofs.Lookup.{kinds-few, kind-below}
 use Rattle.operations.proofs.Digits.{pairsOf, rule-is}
 use Rattle.operations.proofs.rule.Statement.{statement}
 use Rattle.operations.proofs.rule.Tie as tie
 
 digit-requires : tie.Need-digit-requires
-digit-requires c κs = omega (arith, count-is, kind-below (c .args .kind) (c .pre))
+digit-requires c κs = omega (arith, kinds-few, kind-below (c .args .kind) (c .pre))
 
 digit-requires-2 : tie.Need-digit-requires-2
-digit-requires-2 c κs = omega (arith, count-is, kind-below (c .before .args .kind) (c .before .pre))
+digit-requires-2 c κs = omega (arith, kinds-few, kind-below (c .before .args .kind) (c .before .pre))
 
 returns : tie.Need-returns
 unfolding pairsOf

@@ -4,7 +4,7 @@ use Prim.Native.Nat.{_≤_, _-_}
 use native.Mathlib.Omega.{arith}
 use lib.ListN.{take, drop}
 use Rattle.operations.specs.Kinds.{kinds}
-use Rattle.operations.proofs.Lookup.{count-is, below-kind}
+use Rattle.operations.proofs.Lookup.{kinds-few, below-kind}
 use Rattle.lines.proofs.KindNames.{named, kind-here, kind-later, kind-none}
 use Rattle.lines.proofs.words.kind_among.Statement.{statement}
 use Rattle.lines.proofs.words.kind_among.Tie as tie
@@ -45,10 +45,10 @@ kind-among-spec =
     Inv-loop
     μ-loop
     loop-holds
-    (λ c. omega (arith, count-is))
+    (λ c. omega (arith, kinds-few))
     is-name-requires
     returns
-    (λ c. omega (arith, count-is))
+    (λ c. omega (arith, kinds-few))
     (λ c. omega arith)
     loop-again
     returns-2)

@@ -1,7 +1,7 @@
 -- `lines::words::kind_of`: edition 1 has all kinds. Assumes nothing.
-use mathlib.Core.Path.{sym, ap, _∙_}
+use mathlib.Core.Path.{refl, sym, ap, _∙_}
 use native.Mathlib.Omega.{arith}
-use Rattle.operations.proofs.Lookup.{count-is}
+use Rattle.operations.specs.Kinds.{kindCount}
 use Rattle.grammar.specs.Words.{Edition}
 use Rattle.lines.proofs.Editions.{only}
 use Rattle.lines.proofs.KindNames.{named, all-kinds}
@@ -9,12 +9,14 @@ use Rattle.lines.proofs.words.kind_of.Statement.{statement}
 use Rattle.lines.proofs.words.kind_of.Tie as tie
 
 kind-among-requires : tie.Need-kind-among-requires
-kind-among-requires c κs = omega (arith, count-is)
+unfolding kindCount
+kind-among-requires c κs = omega arith
 
 returns : tie.Need-returns
+unfolding kindCount
 returns c =
     let a = c .before .before .args in
-    c .kind-among .ensures ∙ ap (named (a .f .now)) (all-kinds _ count-is) ∙ ap (λ (x : Edition). named (a .f .now) (x .operations)) (sym (only (a .e)))
+    c .kind-among .ensures ∙ ap (named (a .f .now)) (all-kinds kindCount refl) ∙ ap (λ (x : Edition). named (a .f .now) (x .operations)) (sym (only (a .e)))
 
 pub kind-of-spec : {M : Type 1} → statement M
 kind-of-spec = tie.close (tie.spec kind-among-requires returns)
