@@ -2,10 +2,10 @@
 // The output has a line for each kind, then one for `product_bit`, one for the examples and the total: the name, the tables tried (for `product_bit` the
 // bits), those that disagree.
 use examples::examples;
+use oracle::shapes::KINDS;
 use product_bits::product_bits;
 use report::print_kind;
 use report::print_line;
-use shapes::KINDS;
 use sweeps::sweep;
 use trials::counting::joined;
 use trials::counting::none;
