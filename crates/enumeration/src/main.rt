@@ -1,15 +1,14 @@
 // The executed tests: every vector pair to width 4, through the public run on real tables, against plain enumeration of all choices.
 // The output has a line for each kind, then one for `product_bit`, one for the examples and the total: the name, the tables tried (for `product_bit` the
 // bits), those that disagree.
-use examples::examples;
 use product_bits::product_bits;
 use report::print_kind;
 use report::print_line;
 use sweeps::sweep;
 use trials::counting::joined;
 use trials::counting::none;
+use trials::examples::examples;
 
-mod examples; // examples.rt: worked examples
 mod product_bits; // product_bits.rt: every bit of every product
 mod report; // report.rt: the lines of the output
 mod sweeps; // sweeps.rt: all tables of a kind
