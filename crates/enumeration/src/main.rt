@@ -1,7 +1,6 @@
 // The executed tests: every vector pair to width 4, through the public run on real tables, against plain enumeration of all choices.
 // The output has a line for each kind, then one for `product_bit`, one for the examples and the total: the name, the tables tried (for `product_bit` the
 // bits), those that disagree.
-use examples::examples;
 use oracle::shapes::KINDS;
 use product_bits::product_bits;
 use report::print_kind;
@@ -9,8 +8,8 @@ use report::print_line;
 use sweeps::sweep;
 use trials::counting::joined;
 use trials::counting::none;
+use trials::examples::examples;
 
-mod examples; // examples.rt: worked examples
 mod product_bits; // product_bits.rt: every bit of every product
 mod report; // report.rt: the lines of the output
 mod sweeps; // sweeps.rt: all tables of a kind

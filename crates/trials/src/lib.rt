@@ -11,15 +11,16 @@ use oracle::shapes::uses_second;
 use tables::RunAnswer;
 
 pub mod counting; // counting.rt: tables tried and tables that disagree
+pub mod examples; // examples.rt: worked examples
 
 // The rows' masks and values: 0 and 1 the operands, 2 the condition, 3 the target.
-pub struct Rows {
-    pub mask: [u32; 4],
-    pub value: [u32; 4],
+struct Rows {
+    mask: [u32; 4],
+    value: [u32; 4],
 }
 
 // The rows, one by one.
-pub fn table(a: Row, b: Row, c: Row, t: Row) -> Rows {
+fn table(a: Row, b: Row, c: Row, t: Row) -> Rows {
     Rows {
         mask: [a.mask, b.mask, c.mask, t.mask],
         value: [a.value, b.value, c.value, t.value],
@@ -41,7 +42,7 @@ fn record(s: Shape, second: u32) -> [u32; 5]
 }
 
 // Whether run answers 1, that is all of one record. With a number other than 0: whether it answers that refusal, of record 0.
-pub fn answers(answer: RunAnswer, number: u32) -> bool {
+fn answers(answer: RunAnswer, number: u32) -> bool {
     match answer {
         RunAnswer::Done(last) => {
             if number != 0 {
@@ -74,7 +75,7 @@ fn same(a: &[u32; 4], b: &[u32; 4]) -> bool {
 }
 
 // Whether run makes the rows after of those before, or refuses with this number where it is not 0.
-pub fn makes(s: Shape, second: u32, before: Rows, after: Rows, number: u32) -> bool {
+fn makes(s: Shape, second: u32, before: Rows, after: Rows, number: u32) -> bool {
     let width = widths(s);
     let words = record(s, second);
     let lock = [0u8; 4];

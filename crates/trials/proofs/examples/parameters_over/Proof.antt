@@ -1,8 +1,8 @@
--- `enumeration::examples::parameters_over` is safe and ends. The kinds below kind are tried, and kind is at most 10. Assumes nothing.
+-- `trials::examples::parameters_over` is safe and ends. The kinds below kind are tried, and kind is at most 10. Assumes nothing.
 use Prim.Native.Nat.{_≤_, _-_}
 use borrow.Author.Needs.{needs}
-use Rattle.enumeration.proofs.examples.parameters_over.Statement.{statement}
-use Rattle.enumeration.proofs.examples.parameters_over.Tie as tie
+use Rattle.trials.proofs.examples.parameters_over.Statement.{statement}
+use Rattle.trials.proofs.examples.parameters_over.Tie as tie
 
 abbrev Inv-loop : tie.InvT-loop
 Inv-loop tally₀ kind₀ tally kind = kind ≤ 10

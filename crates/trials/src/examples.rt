@@ -1,14 +1,14 @@
 // The unstarred examples that need no text (01, "Worked examples").
+use crate::Rows;
+use crate::answers;
+use crate::counting::Tally;
+use crate::counting::joined;
+use crate::counting::none;
+use crate::counting::one;
+use crate::makes;
+use crate::table;
 use oracle::choices::Row;
 use oracle::shapes::Shape;
-use trials::Rows;
-use trials::answers;
-use trials::counting::Tally;
-use trials::counting::joined;
-use trials::counting::none;
-use trials::counting::one;
-use trials::makes;
-use trials::table;
 
 // A row's mask and value.
 fn row(mask: u32, value: u32) -> Row {
