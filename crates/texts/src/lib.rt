@@ -94,6 +94,16 @@ pub enum ReadAnswer {
     Refused(Refusal),
 }
 
+// A refusal of read.
+fn refused(number: u32, place: usize) -> ReadAnswer
+    ensures { λ r. ⌜ r ≡ ReadAnswer.Refused (record { number = number; place = place }) ⌝ }
+{
+    ReadAnswer::Refused(Refusal {
+        number: number,
+        place: place,
+    })
+}
+
 // Reads a text into the lent slices, from their start. The text is judged whole before the first slice is written.
 pub fn read(
     text: &[u8],
@@ -110,28 +120,16 @@ pub fn read(
 {
     let n = width.len();
     if lock.len() != n {
-        return ReadAnswer::Refused(Refusal {
-            number: LENGTHS,
-            place: 0,
-        });
+        return refused(LENGTHS, 0);
     }
     if mask.len() != n {
-        return ReadAnswer::Refused(Refusal {
-            number: LENGTHS,
-            place: 0,
-        });
+        return refused(LENGTHS, 0);
     }
     if value.len() != n {
-        return ReadAnswer::Refused(Refusal {
-            number: LENGTHS,
-            place: 0,
-        });
+        return refused(LENGTHS, 0);
     }
     if TEXT_LIMIT < text.len() {
-        return ReadAnswer::Refused(Refusal {
-            number: LONG,
-            place: 0,
-        });
+        return refused(LONG, 0);
     }
     let o = opening_of(text);
     let e = o.edition;
@@ -143,22 +141,13 @@ pub fn read(
     let rows = s.rows;
     let records = s.records;
     if bad != 0 {
-        return ReadAnswer::Refused(Refusal {
-            number: LINE,
-            place: bad,
-        });
+        return refused(LINE, bad);
     }
     if n < rows {
-        return ReadAnswer::Refused(Refusal {
-            number: ROOM,
-            place: 0,
-        });
+        return refused(ROOM, 0);
     }
     if words.len() < RECORD_WORDS * records {
-        return ReadAnswer::Refused(Refusal {
-            number: ROOM,
-            place: 0,
-        });
+        return refused(ROOM, 0);
     }
     let at = fill_rows(e, body, rows, width, lock, mask, value);
     fill_records(e, body, at, records, words);

@@ -1,6 +1,9 @@
 -- `texts::read`: the checks in their order, then the two fills. Assumes nothing.
 use native.Mathlib.Omega.{arith}
+use mathlib.Core.Path.{ap, _∙_}
 use Rattle.checks.specs.Model.{lent}
+use Rattle.texts.specs.declared.ReadAnswer.{ReadAnswer}
+use Rattle.texts.specs.Model.{readLeft}
 use Rattle.texts.proofs.Bodies.{survey-waits, body-inside}
 use Rattle.texts.proofs.ReadCall.{refuse-locks, refuse-masks, refuse-values, refuse-length, refuse-line, refuse-rows, refuse-words, rows-wait, records-wait, accept}
 use borrow.Author.Needs.{needs}
@@ -9,33 +12,37 @@ use Rattle.texts.proofs.read.Tie as tie
 
 returns : tie.Need-returns
 returns c =
-    let s = c .before .before .before .before .before .before .before in
+    let d = c .before in
+    let s = d .before .before .before .before .before .before .before in
     let slices = lent (s .args .width .now) (s .args .lock .now) (s .args .mask .now) (s .args .value .now) (s .args .words .now) in
-    refuse-locks (s .args .text .now) slices (c .if1 .taken)
+    ap (λ (r : ReadAnswer). readLeft r slices) (c .refused .ensures) ∙ refuse-locks (s .args .text .now) slices (d .if1 .taken)
 
 returns-2 : tie.Need-returns-2
 returns-2 c =
-    let p1 = c .before in
+    let d = c .before in
+    let p1 = d .before in
     let s = p1 .before .before .before .before .before .before .before in
     let slices = lent (s .args .width .now) (s .args .lock .now) (s .args .mask .now) (s .args .value .now) (s .args .words .now) in
-    refuse-masks (s .args .text .now) slices (p1 .if1 .left) (c .if2 .taken)
+    ap (λ (r : ReadAnswer). readLeft r slices) (c .refused2 .ensures) ∙ refuse-masks (s .args .text .now) slices (p1 .if1 .left) (d .if2 .taken)
 
 returns-3 : tie.Need-returns-3
 returns-3 c =
-    let p1 = c .before in
+    let d = c .before in
+    let p1 = d .before in
     let p2 = p1 .before in
     let s = p2 .before .before .before .before .before .before .before in
     let slices = lent (s .args .width .now) (s .args .lock .now) (s .args .mask .now) (s .args .value .now) (s .args .words .now) in
-    refuse-values (s .args .text .now) slices (p2 .if1 .left) (p1 .if2 .left) (c .if3 .taken)
+    ap (λ (r : ReadAnswer). readLeft r slices) (c .refused3 .ensures) ∙ refuse-values (s .args .text .now) slices (p2 .if1 .left) (p1 .if2 .left) (d .if3 .taken)
 
 returns-4 : tie.Need-returns-4
 returns-4 c =
-    let p1 = c .before in
+    let d = c .before in
+    let p1 = d .before in
     let p2 = p1 .before in
     let p3 = p2 .before in
     let s = p3 .before .before .before .before .before .before .before in
     let slices = lent (s .args .width .now) (s .args .lock .now) (s .args .mask .now) (s .args .value .now) (s .args .words .now) in
-    refuse-length (s .args .text .now) slices (p3 .if1 .left) (p2 .if2 .left) (p1 .if3 .left) (c .if4 .taken)
+    ap (λ (r : ReadAnswer). readLeft r slices) (c .refused4 .ensures) ∙ refuse-length (s .args .text .now) slices (p3 .if1 .left) (p2 .if2 .left) (p1 .if3 .left) (d .if4 .taken)
 
 sub-body : tie.Need-sub-body
 sub-body c =
@@ -56,7 +63,8 @@ survey-requires c κs =
 
 returns-5 : tie.Need-returns-5
 returns-5 c =
-    let p1 = c .before in
+    let d = c .before in
+    let p1 = d .before in
     let p3 = p1 .before .before in
     let p4 = p3 .before in
     let p5 = p4 .before in
@@ -64,11 +72,12 @@ returns-5 c =
     let p7 = p6 .before in
     let s = p7 .before .before .before .before .before .before .before in
     let slices = lent (s .args .width .now) (s .args .lock .now) (s .args .mask .now) (s .args .value .now) (s .args .words .now) in
-    refuse-line (s .args .text .now) slices (p7 .if1 .left) (p6 .if2 .left) (p5 .if3 .left) (p4 .if4 .left) (p3 .opening-of .result) (p3 .opening-of .ensures) (p1 .survey .result .rows) (p1 .survey .result .records) (p1 .survey .result .bad) (p1 .survey .ensures) (c .if5 .taken)
+    ap (λ (r : ReadAnswer). readLeft r slices) (c .refused5 .ensures) ∙ refuse-line (s .args .text .now) slices (p7 .if1 .left) (p6 .if2 .left) (p5 .if3 .left) (p4 .if4 .left) (p3 .opening-of .result) (p3 .opening-of .ensures) (p1 .survey .result .rows) (p1 .survey .result .records) (p1 .survey .result .bad) (p1 .survey .ensures) (d .if5 .taken)
 
 returns-6 : tie.Need-returns-6
 returns-6 c =
-    let p1 = c .before in
+    let d = c .before in
+    let p1 = d .before in
     let p2 = p1 .before in
     let p4 = p2 .before .before in
     let p5 = p4 .before in
@@ -77,11 +86,12 @@ returns-6 c =
     let p8 = p7 .before in
     let s = p8 .before .before .before .before .before .before .before in
     let slices = lent (s .args .width .now) (s .args .lock .now) (s .args .mask .now) (s .args .value .now) (s .args .words .now) in
-    refuse-rows (s .args .text .now) slices (p8 .if1 .left) (p7 .if2 .left) (p6 .if3 .left) (p5 .if4 .left) (p4 .opening-of .result) (p4 .opening-of .ensures) (p2 .survey .result .rows) (p2 .survey .result .records) (p2 .survey .result .bad) (p2 .survey .ensures) (p1 .if5 .left) (c .if6 .taken)
+    ap (λ (r : ReadAnswer). readLeft r slices) (c .refused6 .ensures) ∙ refuse-rows (s .args .text .now) slices (p8 .if1 .left) (p7 .if2 .left) (p6 .if3 .left) (p5 .if4 .left) (p4 .opening-of .result) (p4 .opening-of .ensures) (p2 .survey .result .rows) (p2 .survey .result .records) (p2 .survey .result .bad) (p2 .survey .ensures) (p1 .if5 .left) (d .if6 .taken)
 
 returns-7 : tie.Need-returns-7
 returns-7 c =
-    let p1 = c .before in
+    let d = c .before in
+    let p1 = d .before in
     let p2 = p1 .before in
     let p3 = p2 .before in
     let p5 = p3 .before .before in
@@ -91,7 +101,7 @@ returns-7 c =
     let p9 = p8 .before in
     let s = p9 .before .before .before .before .before .before .before in
     let slices = lent (s .args .width .now) (s .args .lock .now) (s .args .mask .now) (s .args .value .now) (s .args .words .now) in
-    refuse-words (s .args .text .now) slices (p9 .if1 .left) (p8 .if2 .left) (p7 .if3 .left) (p6 .if4 .left) (p5 .opening-of .result) (p5 .opening-of .ensures) (p3 .survey .result .rows) (p3 .survey .result .records) (p3 .survey .result .bad) (p3 .survey .ensures) (p2 .if5 .left) (p1 .if6 .left) (c .if7 .taken)
+    ap (λ (r : ReadAnswer). readLeft r slices) (c .refused7 .ensures) ∙ refuse-words (s .args .text .now) slices (p9 .if1 .left) (p8 .if2 .left) (p7 .if3 .left) (p6 .if4 .left) (p5 .opening-of .result) (p5 .opening-of .ensures) (p3 .survey .result .rows) (p3 .survey .result .records) (p3 .survey .result .bad) (p3 .survey .ensures) (p2 .if5 .left) (p1 .if6 .left) (d .if7 .taken)
 
 fill-rows-requires : tie.Need-fill-rows-requires
 fill-rows-requires c κs =
@@ -144,18 +154,25 @@ pub read-spec : {M : Type 1} → statement M
 read-spec =
     tie.close
     (tie.spec
+    (λ c κs. search needs)
     returns
+    (λ c κs. search needs)
     returns-2
+    (λ c κs. search needs)
     returns-3
+    (λ c κs. search needs)
     returns-4
     (λ c κs. search needs)
     sub-body
     part-body-start
     (λ c. search needs)
     survey-requires
+    (λ c κs. search needs)
     returns-5
+    (λ c κs. search needs)
     returns-6
     (λ c. search needs)
+    (λ c κs. search needs)
     returns-7
     fill-rows-requires
     fill-records-requires
