@@ -13,9 +13,9 @@
  *
  * Answers. Every call returns by an answer, on every input. A refusal leaves every slice as it was lent.
  *
- * Memory and threads. A call uses what it is lent and at most RIFFLERLEEK_STACK_LIMIT bytes of stack. It allocates nothing and
- * keeps nothing between calls, so calls may run on several threads at once, if no slice that one of them may write overlaps a
- * slice of another.
+ * Memory and threads. A call uses what it is lent and some stack: RIFFLERLEEK_STACK_LIMIT bytes are enough for it, which is
+ * measured and not proved. It allocates nothing and keeps nothing between calls, so calls may run on several threads at once, if
+ * no slice that one of them may write overlaps a slice of another.
  *
  * The library is for x86-64 Linux.
  */
@@ -46,7 +46,8 @@ extern "C" {
 #define RIFFLERLEEK_ROW_BYTES 44
 #define RIFFLERLEEK_RECORD_BYTES 24
 
-/* Bytes of stack that no call exceeds (bash tests/host/run measures it). */
+/* Bytes of stack to leave for a call. bash tests/host/run measures the stack of random calls, valid and damaged, and fails if one takes
+ * more. */
 #define RIFFLERLEEK_STACK_LIMIT 4096
 
 /* A result: refusal is RIFFLERLEEK_DONE, place is 0, and result and second_result are what the call says, else 0. A refusal: its
