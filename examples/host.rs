@@ -89,8 +89,7 @@ impl Table {
     fn text(&mut self) -> Result<String, Refusal> {
         let (words, length) = (self.words.as_ptr(), self.words.len());
         let mut out = vec![0; call!(rifflerleek_size, self, words, length)?.0];
-        let bytes = call!(rifflerleek_write, self, words, length, out.as_mut_ptr(), out.len())?.0;
-        out.truncate(bytes);
+        call!(rifflerleek_write, self, words, length, out.as_mut_ptr(), out.len())?;
         Ok(String::from_utf8(out).unwrap())
     }
 }

@@ -31,7 +31,7 @@ extern "C" {
 
 /* Rises by one with every change that a host can see: of a name, a number, a call, an answer or a lent byte. The header that had
  * no version is version 1. CHANGELOG.md names the changes. */
-#define RIFFLERLEEK_VERSION 2
+#define RIFFLERLEEK_VERSION 3
 
 /* Limits. */
 #define RIFFLERLEEK_ROW_LIMIT 256      /* rows in a table */
@@ -42,7 +42,8 @@ extern "C" {
 #define RIFFLERLEEK_TEXT_LIMIT 40000   /* bytes in a text */
 #define RIFFLERLEEK_NUMBER_LIMIT 999   /* greatest number in a text */
 
-/* The text of a table has at most ROW_BYTES for each row and RECORD_BYTES for each record: what rifflerleek_size answers. */
+/* The text of a table has at most ROW_BYTES for each row and RECORD_BYTES for each record; rifflerleek_size answers how many it
+ * has. */
 #define RIFFLERLEEK_ROW_BYTES 44
 #define RIFFLERLEEK_RECORD_BYTES 24
 
@@ -107,7 +108,7 @@ enum {
     RIFFLERLEEK_REFUSED_LINE = 12,   /* a line outside the grammar, a row line after a record line, or no final LF; the first such
                                         line, from 1 (for a missing LF the last line) */
     RIFFLERLEEK_REFUSED_ROOM = 13,   /* row lines or record words exceed the lent slices; place 0 */
-    RIFFLERLEEK_REFUSED_BUFFER = 14  /* the output buffer is shorter than what size answers; place 0 */
+    RIFFLERLEEK_REFUSED_BUFFER = 14  /* the output buffer is shorter than the table's text; place 0 */
 };
 
 /* Runs the records from first up to but not including last, after a check of the whole table. result is last, and mask and value
@@ -121,8 +122,8 @@ rifflerleek_answer rifflerleek_run(const uint8_t *width, size_t widths, const ui
 rifflerleek_answer rifflerleek_count(const uint8_t *width, size_t widths, const uint8_t *lock, size_t locks,
                                      const uint32_t *mask, size_t masks, const uint32_t *value, size_t values, size_t row);
 
-/* A number of bytes that the table's text does not exceed. result is RIFFLERLEEK_ROW_BYTES * rows + RIFFLERLEEK_RECORD_BYTES *
- * records. Refusals 1 to 9. Changes no slice. */
+/* Counts the bytes of the table's text. result is their number: a buffer of exactly so many bytes is enough for
+ * rifflerleek_write. Refusals 1 to 9. Changes no slice. */
 rifflerleek_answer rifflerleek_size(const uint8_t *width, size_t widths, const uint8_t *lock, size_t locks,
                                     const uint32_t *mask, size_t masks, const uint32_t *value, size_t values,
                                     const uint32_t *words, size_t word_count);

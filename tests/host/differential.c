@@ -58,21 +58,38 @@ static void call_size(void)
     compare(SIZE, library_size(&t), ref_size(&r));
 }
 
-static void call_write(void)
+// Lends write a buffer of that length, filled with any bytes.
+static rifflerleek_answer write_into(size_t length)
 {
-    static uint8_t buffer[40000];
+    static uint8_t buffer[RIFFLERLEEK_TEXT_LIMIT];
     struct ref_table r, t;
     uint8_t *other;
-    table();
-    size_t size = 44 * d.widths + 24 * (d.word_count / 5);
-    size_t lengths[] = {size, size + below(100), size + below(100), size - (size > 0), below(size + 1), 0};
-    size_t length = lengths[below(6)];
-    length = length > sizeof buffer ? sizeof buffer : length;
     for (size_t i = 0; i < length; i++)
         buffer[i] = (uint8_t)draw();
     t = lend_table(&d, &r);
     uint8_t *out = lend(buffer, length, &other);
-    compare(WRITE, library_write(&t, out, length), ref_write(&r, other, length));
+    rifflerleek_answer a = library_write(&t, out, length);
+    compare(WRITE, a, ref_write(&r, other, length));
+    return a;
+}
+
+// Where the table has a size, that many bytes are enough for write, which answers the same number, and one byte less is not.
+static void call_write(void)
+{
+    struct ref_table r, t;
+    table();
+    t = lend_table(&d, &r);
+    rifflerleek_answer size = library_size(&t);
+    compare(SIZE, size, ref_size(&r));
+    write_into(percent(50) ? below(size.result + 1) : size.result + below(100));
+    if (size.refusal != RIFFLERLEEK_DONE)
+        return;
+    rifflerleek_answer whole = write_into(size.result), less = write_into(size.result - 1);
+    if (whole.refusal != RIFFLERLEEK_DONE || whole.result != size.result || less.refusal != RIFFLERLEEK_REFUSED_BUFFER) {
+        printf("call %zu: size answers %zu; write answers %zu into as many bytes (refusal %u), refusal %u into one less\n", call_number,
+               size.result, whole.result, whole.refusal, less.refusal);
+        exit(1);
+    }
 }
 
 // Slices that hold a text, or just not, filled with any bytes.

@@ -1,4 +1,4 @@
-// The refusals 1 to 10, the kinds, count and size.
+// The refusals 1 to 10, the kinds and count.
 #include "reference.h"
 
 const struct kind kinds[KINDS] = {
@@ -114,10 +114,4 @@ struct ref_answer ref_count(const struct ref_table *t, size_t row)
     for (unsigned k = 0; k < t->width[row]; k++)
         unknown += t->mask[row] >> k & 1;
     return ref_result(unknown, (uint64_t)1 << unknown);
-}
-
-struct ref_answer ref_size(const struct ref_table *t)
-{
-    struct ref_answer a = ref_check(t, 0, 0, 0);
-    return a.refusal != 0 ? a : ref_result(44 * t->widths + 24 * (t->word_count / 5), 0);
 }

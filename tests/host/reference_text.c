@@ -1,12 +1,15 @@
-// The text of a table: write and field.
+// The text of a table: size, write and field.
 #include "reference.h"
 #include <stdio.h>
 #include <string.h>
 
-// The text, put into a buffer of its own; its length is at most size.
-static size_t print_table(const struct ref_table *t, char *out)
+// The text of the table that was checked last, with room for 44 bytes a row and 24 a record, and a NUL.
+static char printed[44 * 256 + 24 * 1024 + 1];
+
+// Prints the text, and answers its length.
+static size_t print_table(const struct ref_table *t)
 {
-    char *at = out;
+    char *at = printed;
     for (size_t i = 0; i < t->widths; i++) {
         at += sprintf(at, "row\t%s\t", t->lock[i] == 1 ? "locked" : "open");
         for (unsigned k = t->width[i]; k-- > 0;)
@@ -17,20 +20,24 @@ static size_t print_table(const struct ref_table *t, char *out)
         const uint32_t *w = t->words + 5 * r;
         at += sprintf(at, "op\t%s\t%u\t%u\t%u\t%u\n", kinds[w[0]].name, w[1], w[2], w[3], w[4]);
     }
-    return (size_t)(at - out);
+    return (size_t)(at - printed);
+}
+
+struct ref_answer ref_size(const struct ref_table *t)
+{
+    struct ref_answer a = ref_check(t, 0, 0, 0);
+    return a.refusal != 0 ? a : ref_result(print_table(t), 0);
 }
 
 struct ref_answer ref_write(const struct ref_table *t, uint8_t *out, size_t length)
 {
-    static char text[44 * 256 + 24 * 1024 + 100];
     struct ref_answer a = ref_size(t);
     if (a.refusal != 0)
         return a;
     if (length < a.result)
         return ref_refusal(14, 0);
-    size_t n = print_table(t, text);
-    memcpy(out, text, n);
-    return ref_result(n, 0);
+    memcpy(out, printed, a.result);
+    return a;
 }
 
 // ---- field

@@ -14,6 +14,7 @@ use Rattle.tables.proofs.Demand3.{ran-done, accepted-of-run, accepted-with, sta
 use Rattle.tables.proofs.RunLaws.{never-done}
 use Rattle.grammar.specs.Print.{textOf}
 use Rattle.grammar.specs.Lists.{filled}
+use Rattle.grammar.proofs.Sizes.{text-size}
 use Rattle.texts.specs.Calls.{Written, writeOf, Counts, ReadBack, readOf, firstOf}
 use Rattle.texts.proofs.ReadLeft.{read-parts}
 use Rattle.texts.proofs.WriteCall.{written}
@@ -33,7 +34,7 @@ module _ (t : Table) where
   -- and its text fits the output buffer
   pub written-done : (m : ℕ) (rows : State) → _≡_ {A = Ran} (record { answer = done m; rows = rows }) (runOf t 0 (recordCount t)) → (out : List ℕ) → outputRoom ≤ length out
       → writeOf (withRows t rows) out ≡ record { answer = done (length (textOf (withRows t rows))); buffer = filled (textOf (withRows t rows)) out }
-  written-done m rows e out h = written (withRows t rows) out (passed .table) (let r = passed .table .rows-most in let q = passed .table .records-most in omega arith)
+  written-done m rows e out h = written (withRows t rows) out (passed .table) (omega (arith, text-size (withRows t rows) (passed .table), passed .table .rows-most, passed .table .records-most))
     where
       accepted : Accepted t 0 (recordCount t)
       accepted = accepted-of-run t 0 (recordCount t) m (sym (ap (λ (r : Ran). r .answer) e))

@@ -23,7 +23,7 @@ use texts::write;
 // One byte more than a text may have: a buffer that shows a longer input to be longer.
 const TEXT_ROOM: usize = TEXT_LIMIT + 1;
 
-// Size's bytes for the most rows and records, which no output exceeds.
+// The most bytes of the lines of the most rows and records, which no output exceeds.
 const OUTPUT_ROOM: usize = ROW_BYTES * ROW_LIMIT + RECORD_BYTES * RECORD_LIMIT;
 
 // The words of the most records.

@@ -1,7 +1,7 @@
 -- Numbers in decimal: what is printed is read as that number. Assumes nothing.
 --   decimal-small, decimal-large   one digit; leading digits, then the last
 --   number-decimal                 what is printed is read as that number
---   length-pos .. length-three     how many digits there are
+--   length-pos .. length-most      how many digits there are
 use mathlib.Core.Path.{_≡_, refl, sym, ap, _∙_}
 use mathlib.Core.Logic.{_⊎_, inl, inr}
 use mathlib.Core.List.{List, [], _∷_, _++_}
@@ -90,3 +90,6 @@ length-two n l = elim (split-ten n) [ inl h ↦ omega (arith, length-small n h) 
 
 pub length-three : (n : ℕ) → n ≤ 999 → length (decimal n) ≤ 3
 length-three n l = elim (split-ten n) [ inl h ↦ omega (arith, length-small n h) | inr h ↦ omega (arith, length-large n h, length-two (n / 10) (omega arith)) ]
+
+pub length-most : (n : ℕ) → length (decimal n) ≤ 1 + n
+length-most = by-digits (λ n. length (decimal n) ≤ 1 + n) (λ n h. omega (arith, length-small n h)) (λ n h r. omega (arith, length-large n h, r))

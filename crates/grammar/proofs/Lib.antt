@@ -5,6 +5,7 @@ pub mod Parts
 pub mod Decimals
 pub mod Numbers
 pub mod Letters
+pub mod LockWords
 pub mod Vectors
 pub mod Names
 pub mod LineTrips

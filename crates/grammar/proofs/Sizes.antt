@@ -1,6 +1,8 @@
--- The text of a table that passed the checks is no longer than size. Assumes nothing.
---   row-length, record-length   a row line has at most 44 bytes, a record line at most 24
---   text-size                   the text has at most 44 for each row and 24 for each record
+-- How many bytes lines have; at most 44 for each row and 24 for each record of a table that passed the checks. Assumes nothing.
+--   row-bytes, record-bytes     the bytes of a row line and of a record line;   row-most, record-most   at most 44, at most 24
+--   name-most                   a kind's name is no longer than that
+--   lines-append, text-length   the bytes of a text are those of its row lines and of its record lines
+--   rows-size, records-size     at most 44 for each row;   at most 24 for each record;   text-size   both
 use mathlib.Core.Path.{_≡_, refl, sym, ap, _∙_}
 use mathlib.Core.Bool.{Bool}
 use mathlib.Core.List.{List, [], _∷_, _++_, map, append-assoc}
@@ -8,12 +10,14 @@ use Prim.Native.Nat.{ℕ, zero, suc, _+_, _*_, _≤_, _<_}
 use native.Mathlib.Nat.{mul-suc}
 use native.Mathlib.Omega.{arith}
 use lib.Dec.{T, leb, leb→le}
-use lib.ListN.{length, drop, length-append}
+use lib.ListN.{length, getD, drop, length-append}
+use Rattle.operations.specs.Limits.{recordWords}
 use Rattle.operations.specs.Kind.{Use, asRow, asNumber, unused, Kind}
-use Rattle.operations.specs.Kinds.{kinds}
+use Rattle.operations.specs.Kinds.{kinds, isKind, kindOf}
 use Rattle.operations.specs.Record.{kindWord, targetWord, firstWord, secondWord, parameterWord, kindIn}
 use Rattle.checks.specs.Table.{Table, recordCount, recordOf}
 use Rattle.checks.specs.Accepted.{TablePassed}
+use Rattle.bits.specs.Limits.{widthLimit}
 use Rattle.bits.specs.Counted.{listed}
 use Rattle.grammar.specs.Limits.{rowBytes, recordBytes}
 use Rattle.grammar.specs.Lists.{allOf}
@@ -21,9 +25,9 @@ use Rattle.grammar.specs.Words.{lf, tab, rowWord, opWord, lockWord}
 use Rattle.grammar.specs.Print.{decimal, lettersOf, LineRow, Line, rowLine, recordLine, fieldsOf, joined, lineText, linesText, lineRow, rowLines, recordLines, tableLines, textOf}
 use Rattle.grammar.proofs.Decimals.{length-small, length-two, length-three}
 use Rattle.grammar.proofs.Letters.{letters-length}
-use Rattle.grammar.proofs.Vectors.{RowFits}
+use Rattle.grammar.proofs.LockWords.{lock-length}
 use Rattle.grammar.proofs.Names.{kind-passes}
-use Rattle.grammar.proofs.WordUses.{WordFits, words-fit, words-after-kind, record-length, row-fits}
+use Rattle.grammar.proofs.WordUses.{WordFits, words-fit, words-after-kind, record-length}
 
 -- ---- a line: each field and the byte after it
 
@@ -37,21 +41,23 @@ line-length p [] = length-append p (lf ∷ []) ∙ omega arith
 line-length p (q ∷ ps) =
     ap length (append-assoc p (tab ∷ joined tab (q ∷ ps)) (lf ∷ [])) ∙ length-append p (tab ∷ (joined tab (q ∷ ps) ++ lf ∷ [])) ∙ omega (arith, line-length q ps)
 
-lock-length : (l : ℕ) → l ≤ 1 → length (lockWord l) ≤ 6
-lock-length zero h = omega arith
-lock-length (suc zero) h = omega arith
-lock-length (suc (suc l)) h = absurd (omega arith)
-
-row-length : (r : LineRow) → RowFits r → length (lineText (rowLine r)) ≤ rowBytes
+pub row-bytes : (r : LineRow) → length (lineText (rowLine r)) ≡ 6 + length (lockWord (r .lock)) + r .vector .width
 unfolding lineText fieldsOf total
-row-length r fits =
-    omega (
-      arith,
-      line-length rowWord (lockWord (r .lock) ∷ lettersOf (r .vector .width) (r .vector .mask) (r .vector .value) ∷ []),
-      lock-length (r .lock) (fits .lock-most),
-      letters-length (r .vector .width) (r .vector .mask) (r .vector .value),
-      fits .width-most,
-    )
+row-bytes r =
+    let letters = lettersOf (r .vector .width) (r .vector .mask) (r .vector .value) in
+    line-length rowWord (lockWord (r .lock) ∷ letters ∷ []) ∙ omega (arith, letters-length (r .vector .width) (r .vector .mask) (r .vector .value))
+
+row-most : (r : LineRow) → r .vector .width ≤ widthLimit → length (lineText (rowLine r)) ≤ rowBytes
+row-most r h = omega (arith, row-bytes r, lock-length (r .lock))
+
+pub record-bytes : (words : List ℕ) → length words ≡ recordWords
+    → length (lineText (recordLine words))
+    ≡ 8 + length (kindIn words .name) + length (decimal (targetWord words)) + length (decimal (firstWord words)) + length (decimal (secondWord words)) + length (decimal (parameterWord words))
+unfolding lineText fieldsOf total
+record-bytes words e =
+    line-length opWord (kindIn words .name ∷ map decimal (drop 1 words))
+    ∙ ap (λ (l : List ℕ). 3 + (suc (length (kindIn words .name)) + total (map decimal l))) (words-after-kind words e)
+    ∙ omega arith
 
 -- the digits that a word can have, and the byte after them
 abbrev room : Use → ℕ
@@ -75,17 +81,18 @@ kinds-fit : T (allOf lineFits kinds)
 unfolding allOf kinds
 kinds-fit = tt
 
-record-bytes : (t : Table) → TablePassed t → (i : ℕ) → i < recordCount t → length (lineText (recordLine (recordOf t i))) ≤ recordBytes
-unfolding lineText fieldsOf total
-record-bytes t P i h =
+pub name-most : (k : ℕ) → T (isKind k) → length (kindOf k .name) ≤ recordBytes
+name-most k h = omega (arith, leb→le (longest (kindOf k)) recordBytes (kind-passes lineFits kinds-fit k h .0))
+
+record-most : (t : Table) → TablePassed t → (i : ℕ) → i < recordCount t → length (lineText (recordLine (recordOf t i))) ≤ recordBytes
+record-most t P i h =
     let words = recordOf t i in
     let n = length (t .widths) in
     let f = words-fit (t .widths) words (P .record-passed i h) in
     let k = kind-passes lineFits kinds-fit (kindWord words) (P .record-passed i h .kind-known) .0 in
     omega (
       arith,
-      line-length opWord (kindIn words .name ∷ map decimal (drop 1 words)),
-      ap (λ (l : List ℕ). total (map decimal l)) (words-after-kind words (record-length t P i h)),
+      record-bytes words (record-length t P i h),
       leb→le (longest (kindIn words)) recordBytes k,
       word-length n (P .rows-most) asRow (targetWord words) (f .target),
       word-length n (P .rows-most) (kindIn words .use-a) (firstWord words) (f .first),
@@ -106,13 +113,15 @@ lines-length c f i zero h = omega arith
 lines-length c f i (suc n) h =
     omega (arith, length-append (lineText (f i)) (linesText (listed f (suc i) n)), h i (omega arith), lines-length c f (suc i) n (λ j l. h j (omega arith)), mul-suc c n)
 
-pub text-size : (t : Table) → TablePassed t → length (textOf t) ≤ rowBytes * length (t .widths) + recordBytes * recordCount t
+pub text-length : (t : Table) → length (textOf t) ≡ length (linesText (rowLines t)) + length (linesText (recordLines t))
 unfolding textOf tableLines
-text-size t P =
-    omega (
-      arith,
-      ap length (lines-append (rowLines t) (recordLines t)),
-      length-append (linesText (rowLines t)) (linesText (recordLines t)),
-      lines-length rowBytes (λ i. rowLine (lineRow t i)) 0 (length (t .widths)) (λ j h. row-length (lineRow t j) (row-fits t P j (omega arith))),
-      lines-length recordBytes (λ i. recordLine (recordOf t i)) 0 (recordCount t) (λ j h. record-bytes t P j (omega arith)),
-    )
+text-length t = ap length (lines-append (rowLines t) (recordLines t)) ∙ length-append (linesText (rowLines t)) (linesText (recordLines t))
+
+pub rows-size : (t : Table) → ((i : ℕ) → i < length (t .widths) → getD (t .widths) i 0 ≤ widthLimit) → length (linesText (rowLines t)) ≤ rowBytes * length (t .widths)
+rows-size t narrow = lines-length rowBytes (λ i. rowLine (lineRow t i)) 0 (length (t .widths)) (λ j h. row-most (lineRow t j) (narrow j (omega arith)))
+
+pub records-size : (t : Table) → TablePassed t → length (linesText (recordLines t)) ≤ recordBytes * recordCount t
+records-size t P = lines-length recordBytes (λ i. recordLine (recordOf t i)) 0 (recordCount t) (λ j h. record-most t P j (omega arith))
+
+pub text-size : (t : Table) → TablePassed t → length (textOf t) ≤ rowBytes * length (t .widths) + recordBytes * recordCount t
+text-size t P = omega (arith, text-length t, rows-size t (λ i h. P .row-passed i h .width-most), records-size t P)

@@ -1,7 +1,7 @@
 -- Numbers that 01, "Calls", "Text" and "Who can cause a refusal" set.
 --   numberLimit   the greatest number of a record line
 --   textLimit     the most bytes of a text that read takes
---   rowBytes      size's bytes a row;   recordBytes   size's bytes a record
+--   rowBytes      the most bytes of a row line;   recordBytes   the most bytes of a record line
 use Prim.Native.Nat.{ℕ}
 
 abbrev pub numberLimit : ℕ

@@ -1,26 +1,17 @@
 -- Writing a line: its parts in the order in which they are put. Assumes nothing.
---   lock-word, open-word        the word of a lock
 --   row-begin, record-begin     a line, by its parts
 use mathlib.Core.Path.{_≡_, sym, ap}
-use mathlib.Core.Bool.{Bool, cond}
 use mathlib.Core.List.{List, [], _∷_, _++_, append-assoc}
 use Prim.Native.Nat.{ℕ}
-use borrow.Author.Tests.{eq-eqb, ne-eqb}
 use Rattle.vectors.specs.Row.{row}
 use Rattle.operations.specs.declared.Record.{Record}
 use Rattle.operations.specs.Kinds.{kindOf}
 use Rattle.operations.specs.Record.{wordsOf}
-use Rattle.grammar.specs.Words.{lf, tab, openWord, lockedWord, lockWord}
+use Rattle.grammar.specs.Words.{lf, tab, lockWord}
 use Rattle.grammar.specs.Print.{decimal, lettersOf, rowLine, recordLine, fieldsOf, joined, lineText}
 use Rattle.lines.proofs.Puts.{Writing, begin}
 
 -- ---- a row line
-
-pub lock-word : (l : ℕ) → l ≡ 1 → lockWord l ≡ lockedWord
-lock-word l e = ap (λ (t : Bool). cond t lockedWord openWord) (eq-eqb l 1 e)
-
-pub open-word : (l : ℕ) → (l ≡ 1 → ⊥) → lockWord l ≡ openWord
-open-word l e = ap (λ (t : Bool). cond t lockedWord openWord) (ne-eqb l 1 e)
 
 module _ (lock w m v : ℕ) where
   abbrev pub rowText : List ℕ

@@ -2,5 +2,4 @@
 pub mod Hosted
 pub mod Numbered
 pub mod Runs
-pub mod SizeBounds
 pub mod Starts

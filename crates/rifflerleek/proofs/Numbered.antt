@@ -1,4 +1,4 @@
--- The refusals of run and size have numbers from 1 on. Assumes nothing.
+-- The refusals of run have numbers from 1 on. Assumes nothing.
 use mathlib.Core.Path.{_≡_, ap}
 use mathlib.Core.Bool.{Bool, true, false, cond, _&&_}
 use mathlib.Core.List.{List, [], _∷_, _++_}
@@ -9,7 +9,7 @@ use lib.ListN.{length}
 use Rattle.bits.proofs.Bools.{T-and, T-left, T-right}
 use Rattle.operations.specs.Record.{recordFaults, lockFault}
 use Rattle.checks.specs.Check.{Answer, done, refused, Check, verdict, placed, rising}
-use Rattle.checks.specs.Checks.{rowFaultsAt, rowChecks, recordChecks, openChecks, runChecks, sizeChecks}
+use Rattle.checks.specs.Checks.{rowFaultsAt, rowChecks, openChecks, runChecks}
 use Rattle.checks.specs.Table.{Table, recordCount, recordOf}
 
 -- no check of the list has the number 0
@@ -41,18 +41,6 @@ refused-from {A} (c ∷ cs) a n i p e = go (c .fails) e (refused-from cs a n i (
 
 rows-numbered : (t : Table) → T (numbered (rowChecks t))
 rows-numbered t = all (λ i. placed i (rowFaultsAt t i)) (λ i. tt) 0 (length (t .widths))
-
-module _ (t : Table) where
-  record-numbered : (i : ℕ) → T (numbered (placed i (recordFaults (t .widths) (recordOf t i))))
-  unfolding recordFaults
-  record-numbered i = tt
-
-  size-numbered : T (numbered (sizeChecks t))
-  unfolding sizeChecks
-  size-numbered = append (rowChecks t) (recordChecks t) (rows-numbered t) (all _ record-numbered 0 (recordCount t))
-
-  pub size-refused : {A : Type 0} (a : A) (n i : ℕ) → verdict (sizeChecks t) a ≡ refused n i → 1 ≤ n
-  size-refused a n i e = refused-from (sizeChecks t) a n i size-numbered e
 
 module _ (t : Table) (first last : ℕ) where
   records-numbered : (i : ℕ) → T (numbered (placed i (recordFaults (t .widths) (recordOf t i)) ++ placed i (lockFault (t .locks) (recordOf t i))))

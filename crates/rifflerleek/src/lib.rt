@@ -1,15 +1,12 @@
 // The library for C, C++ and Rust programs: the public calls, exported (01, "Calls").
 ghost use mathlib.Core.Path.{_≡_};
 ghost use mathlib.Core.List.{[]};
-ghost use Prim.Native.Nat.{_≤_};
-ghost use lib.ListN.{length};
 ghost use Rattle.checks.specs.Model.{lent};
 ghost use Rattle.tables.specs.Known.{Demand2};
 ghost use Rattle.tables.specs.Demand.{Demand3};
 ghost use Rattle.tables.specs.Model.{held};
 ghost use Rattle.tables.specs.Run.{runOf, countOf};
 ghost use Rattle.grammar.specs.Cut.{fieldEnds};
-ghost use Rattle.grammar.specs.Print.{textOf};
 ghost use Rattle.texts.specs.Calls.{sizeOf, writeOf, readOf};
 ghost use Rattle.rifflerleek.specs.Host.{hostResult, hostRefusal, numberAnswer, countAnswer, endsAnswer, outcome, hostRan, hostWritten, hostRead};
 use checks::Refusal;
@@ -102,7 +99,7 @@ pub extern "C" fn rifflerleek_count(
     }
 }
 
-// A number of bytes that the table's text does not exceed: `result` of the answer.
+// Counts the bytes of the table's text: `result` of the answer.
 #[no_mangle]
 pub extern "C" fn rifflerleek_size(
     width: &[u8],
@@ -111,12 +108,9 @@ pub extern "C" fn rifflerleek_size(
     value: &[u32],
     words: &[u32],
 ) -> Answer
-    ensures answer { λ r.
+    ensures { λ r.
         let table = lent (now (width .entry)) (now (lock .entry)) (now (mask .entry)) (now (value .entry)) (now (words .entry)) in
         ⌜ r ≡ numberAnswer (sizeOf table) ⌝ }
-    ensures bound { λ r.
-        let table = lent (now (width .entry)) (now (lock .entry)) (now (mask .entry)) (now (value .entry)) (now (words .entry)) in
-        ⌜ (r .refusal ≡ 0 → length (textOf table) ≤ r .result) ⌝ }
 {
     match texts::size(width, lock, mask, value, words) {
         BytesAnswer::Bytes(n) => done(n, 0),

@@ -1,8 +1,8 @@
--- Writing the lines of a table: the turns of the two loops. Assumes nothing.
+-- Writing and counting the lines of a table: the turns of the loops. Assumes nothing.
 --   lines-on, lines-end                   the lines from i on, by the first of them
---   rows-begin, row-on, rows-end          the row lines
---   records-begin, record-on, records-end, kind-in   the record lines
-use mathlib.Core.Path.{_≡_, sym, ap, subst, _∙_}
+--   rows-begin, row-on, rows-end          the row lines;   row-left   their bytes
+--   records-begin, record-on, records-end, kind-in   the record lines;   record-left   their bytes
+use mathlib.Core.Path.{_≡_, refl, sym, ap, subst, _∙_}
 use mathlib.Core.List.{List, [], _++_}
 use Prim.Native.Nat.{ℕ, suc, _+_, _-_, _/_, _≤_, _<_}
 use native.Mathlib.Nat.{sub-zero}
@@ -10,7 +10,7 @@ use native.Mathlib.Numerals.{add-one}
 use native.Mathlib.Omega.{arith}
 use lib.Dec.{T}
 use Rattle.operations.specs.Kinds.{isKind}
-use lib.ListN.{length, getD}
+use lib.ListN.{length, getD, length-append}
 use Rattle.operations.specs.Limits.{recordWords}
 use Rattle.operations.specs.declared.Record.{Record}
 use Rattle.operations.specs.Record.{kindWord, wordsOf}
@@ -45,6 +45,12 @@ row-on t i w h e =
     lines-on (λ j. rowLine (lineRow t j)) i (length (t .widths)) h
     ∙ ap (λ (x : ℕ). rowText (getD (t .locks) i 0) x (getD (t .masks) i 0) (getD (t .values) i 0) ++ rows-from t (i + 1)) (sym e)
 
+pub row-left : (t : Table) (i : ℕ) → i < length (t .widths)
+    → length (rows-from t i) ≡ length (rowText (getD (t .locks) i 0) (getD (t .widths) i 0) (getD (t .masks) i 0) (getD (t .values) i 0)) + length (rows-from t (i + 1))
+row-left t i h =
+    ap length (row-on t i (getD (t .widths) i 0) h refl)
+    ∙ length-append (rowText (getD (t .locks) i 0) (getD (t .widths) i 0) (getD (t .masks) i 0) (getD (t .values) i 0)) (rows-from t (i + 1))
+
 pub rows-begin : (t : Table) → rows-from t 0 ≡ linesText (rowLines t)
 rows-begin t = ap (λ (n : ℕ). linesText (listed (λ j. rowLine (lineRow t j)) 0 n)) (sub-zero (length (t .widths)))
 
@@ -61,6 +67,9 @@ module _ (words : List ℕ) (i : ℕ) (h : i < length words / recordWords) (r : 
   record-on =
       lines-on (λ j. recordLine (recordOf (lent [] [] [] [] words) j)) i (length words / recordWords) h
       ∙ ap (λ (x : List ℕ). lineText (recordLine x) ++ records-from words (i + 1)) (sym is)
+
+  pub record-left : length (records-from words i) ≡ length (recordText r) + length (records-from words (i + 1))
+  record-left = ap length record-on ∙ length-append (recordText r) (records-from words (i + 1))
 
   pub kind-in : RecordsFit words → T (isKind (r .kind))
   kind-in fits = subst (λ (x : List ℕ). T (isKind (kindWord x))) (sym is) (fits .known i h)

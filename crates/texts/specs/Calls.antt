@@ -1,5 +1,5 @@
--- What size, write and read answer and leave (01, "Calls" and "Who can cause a refusal").
---   sizeBound t                  the bytes that size answers;   sizeOf t   size's answer
+-- What size, write and read answer and leave (01, "Calls" and "Who can cause a refusal"; 02, request 1, for size and 14).
+--   sizeOf t                     size's answer
 --   bufferShort t room           the condition of 14;   writeChecks t room   what write refuses, in order
 --   Written, writeOf t out       write's answer, and the buffer that it leaves;   writtenAs   these of a verdict of write's checks
 --   lentChecks, lengthChecks, lineChecks, roomChecks   2, 11, 12 and 13 of read
@@ -11,7 +11,7 @@
 --   firstOf c slices             the first rows and records of the slices, as many as c counts
 use mathlib.Core.Bool.{Bool, false, not}
 use mathlib.Core.List.{List, [], _∷_, _++_}
-use Prim.Native.Nat.{ℕ, _+_, _*_}
+use Prim.Native.Nat.{ℕ, _*_}
 use lib.Dec.{ltb, eqb}
 use lib.ListN.{length, take}
 use Rattle.operations.specs.Limits.{recordWords}
@@ -19,25 +19,22 @@ use Rattle.operations.specs.Record.{fault}
 use Rattle.checks.specs.Check.{Answer, done, refused, Check, verdict, placed}
 use Rattle.checks.specs.Table.{Table, recordCount}
 use Rattle.checks.specs.Checks.{sizeChecks, locksDiffer, masksDiffer, valuesDiffer}
-use Rattle.grammar.specs.Limits.{textLimit, rowBytes, recordBytes}
+use Rattle.grammar.specs.Limits.{textLimit}
 use Rattle.grammar.specs.Lists.{filled}
 use Rattle.grammar.specs.Print.{textOf}
 use Rattle.grammar.specs.Lines.{opening, linesIn, firstBad, tableRead}
 
--- "44 × rows + 24 × records, a number of bytes the text doesn't exceed"
-abbrev pub sizeBound : Table → ℕ
-sizeBound t = rowBytes * length (t .widths) + recordBytes * recordCount t
-
+-- "Size shall be the number of bytes that the text has, no more." (02, request 1)
 unfoldable pub sizeOf : Table → Answer ℕ
-sizeOf t = verdict (sizeChecks t) (sizeBound t)
+sizeOf t = verdict (sizeChecks t) (length (textOf t))
 
 pub record Written : Type 0 where
   pub answer : Answer ℕ
   pub buffer : List ℕ
 
--- 14: output buffer shorter than size
+-- "Refusal 14 is then given if the buffer is shorter than the text itself." (02, request 1)
 abbrev pub bufferShort : Table → ℕ → Bool
-bufferShort t room = ltb room (sizeBound t)
+bufferShort t room = ltb room (length (textOf t))
 
 -- "write 1 to 9 then 14"
 unfoldable pub writeChecks : Table → ℕ → List Check

@@ -1,12 +1,8 @@
 // The text of a table: size, write, read and field (01, "Calls" and "Text").
 ghost use mathlib.Core.Path.{_≡_};
-ghost use Prim.Native.Nat.{ℕ, _≤_};
-ghost use lib.ListN.{length};
 ghost use denote.Ref.{ptr};
-ghost use Rattle.checks.specs.Check.{done};
 ghost use Rattle.checks.specs.Model.{lent};
 ghost use Rattle.grammar.specs.Cut.{fieldOf};
-ghost use Rattle.grammar.specs.Print.{textOf};
 ghost use Rattle.texts.specs.Calls.{sizeOf, writeOf, readOf};
 ghost use Rattle.lines.specs.Model.{lies};
 ghost use Rattle.texts.specs.Model.{bytesModel, writeLeft, readLeft};
@@ -17,8 +13,6 @@ use checks::refusals::LENGTHS;
 use checks::refusals::LINE;
 use checks::refusals::LONG;
 use checks::refusals::ROOM;
-use limits::RECORD_BYTES;
-use limits::ROW_BYTES;
 use limits::TEXT_LIMIT;
 use lines::cut::LF;
 use lines::cut::TAB;
@@ -29,6 +23,8 @@ use table_checks::check_table;
 use table_lines::fill::fill_records;
 use table_lines::fill::fill_rows;
 use table_lines::fill::survey;
+use table_lines::length::records_length;
+use table_lines::length::rows_length;
 use table_lines::print::put_records;
 use table_lines::print::put_rows;
 
@@ -40,21 +36,20 @@ pub enum BytesAnswer {
     Refused(Refusal),
 }
 
-// A number of bytes that the text of a table does not exceed.
+// The number of bytes that the text of a table has.
 pub fn size(width: &[u8], lock: &[u8], mask: &[u32], value: &[u32], words: &[u32]) -> BytesAnswer
-    ensures answer { λ r.
+    ensures { λ r.
         let table = lent (now (width .entry)) (now (lock .entry)) (now (mask .entry)) (now (value .entry)) (now (words .entry)) in
         ⌜ bytesModel r ≡ sizeOf table ⌝ }
-    ensures bound { λ r.
-        let table = lent (now (width .entry)) (now (lock .entry)) (now (mask .entry)) (now (value .entry)) (now (words .entry)) in
-        ⌜ ((n : ℕ) → bytesModel r ≡ done n → length (textOf table) ≤ n) ⌝ }
 {
     let found = check_table(width, lock, mask, value, words);
     match found {
         Verdict::Refused(r) => BytesAnswer::Refused(r),
-        Verdict::Passed => BytesAnswer::Bytes(
-            ROW_BYTES * width.len() + RECORD_BYTES * (words.len() / RECORD_WORDS),
-        ),
+        Verdict::Passed => {
+            let rows = rows_length(width, lock);
+            let records = records_length(words);
+            BytesAnswer::Bytes(rows + records)
+        }
     }
 }
 

@@ -21,7 +21,7 @@ use Rattle.grammar.specs.Lines.{tableRead}
 use Rattle.grammar.proofs.WriteRead.{text-good, text-table}
 use Rattle.grammar.proofs.ReadWrite.{table-text}
 use Rattle.grammar.proofs.Sizes.{text-size}
-use Rattle.texts.specs.Calls.{sizeBound, bufferShort, writeChecks, Written, writtenAs, writeOf, Counts, countsOf, filledWith, readOf, firstOf}
+use Rattle.texts.specs.Calls.{bufferShort, writeChecks, Written, writtenAs, writeOf, Counts, countsOf, filledWith, readOf, firstOf}
 use Rattle.texts.proofs.ReadChecks.{ReadPassed, read-of-answer, answer-of-read}
 use Rattle.texts.proofs.ReadLeft.{part-back, read-parts}
 use Rattle.texts.proofs.WriteCall.{written}
@@ -33,14 +33,14 @@ answer-is : (a : Answer ℕ) (t : Table) (out : List ℕ) → writtenAs a t out 
 answer-is (done n) t out = refl
 answer-is (refused n i) t out = refl
 
-pub write-of-answer : (t : Table) (out : List ℕ) (n : ℕ) → writeOf t out .answer ≡ done n → TablePassed t × (sizeBound t ≤ length out)
+pub write-of-answer : (t : Table) (out : List ℕ) (n : ℕ) → writeOf t out .answer ≡ done n → TablePassed t × (length (textOf t) ≤ length out)
 unfolding writeOf writeChecks
 write-of-answer t out n e =
     let last = placed 0 (fault (bufferShort t (length out)) 14 ∷ []) in
     let P : Passed (sizeChecks t ++ last) =
     passed-of-done (writeChecks t (length out)) (length (textOf t)) n (sym (answer-is (verdict (writeChecks t (length out)) (length (textOf t))) t out) ∙ e) in
     let Q : Passed last = passed-right (sizeChecks t) last P in
-    (table-of-passed t (passed-left (sizeChecks t) last P), nltb→le (length out) (sizeBound t) (Q .0))
+    (table-of-passed t (passed-left (sizeChecks t) last P), nltb→le (length out) (length (textOf t)) (Q .0))
 
 -- ---- written, then read
 

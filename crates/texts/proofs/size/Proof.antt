@@ -1,41 +1,55 @@
 -- `texts::size`, by the verdict of the checks. Assumes nothing.
 use native.Mathlib.Omega.{arith}
 use Rattle.checks.specs.Model.{lent}
-use Rattle.texts.proofs.WriteCall.{size-refused, size-passed, size-done, size-covers}
+use Rattle.texts.proofs.WriteCall.{size-refused, rows-short, records-short, size-done}
 use borrow.Author.Needs.{needs}
 use Rattle.texts.proofs.size.Statement.{statement}
 use Rattle.texts.proofs.size.Tie as tie
 
-enum-told : tie.Need-enum-told
-enum-told c = search needs
-
-mul-t10 : tie.Need-mul-t10
-mul-t10 c =
-    let p2 = c .before .before in
-    let s = p2 .before .before .before .before .before .before in
+rows-length-requires : tie.Need-rows-length-requires
+rows-length-requires c κs =
+    let v = c .before .before in
+    let s = v .before .before .before .before .before .before in
     let t = lent (s .args .width .now) (s .args .lock .now) (s .args .mask .now) (s .args .value .now) (s .args .words .now) in
-    omega (arith, size-passed t (p2 .check-table .result) (p2 .check-table .ensures) (c .enum-told .given .1) .rows-most)
+    rows-short t (v .check-table .result) (v .check-table .ensures) (c .enum-told .given .1)
 
-add-t14 : tie.Need-add-t14
-add-t14 c =
-    let s = c .before .before .before .before .before .before .before .before in
+records-length-requires : tie.Need-records-length-requires
+records-length-requires c κs =
+    let e = c .before in
+    let v = e .before .before in
+    let s = v .before .before .before .before .before .before in
     let t = lent (s .args .width .now) (s .args .lock .now) (s .args .mask .now) (s .args .value .now) (s .args .words .now) in
-    let P = size-passed t (c .before .before .check-table .result) (c .before .before .check-table .ensures) (c .enum-told .given .1) in
-    omega (arith, P .rows-most, P .records-most)
+    records-short t (v .check-table .result) (v .check-table .ensures) (e .enum-told .given .1)
+
+add-t11 : tie.Need-add-t11
+add-t11 c =
+    let e = c .before .before in
+    let v = e .before .before in
+    let s = v .before .before .before .before .before .before in
+    let t = lent (s .args .width .now) (s .args .lock .now) (s .args .mask .now) (s .args .value .now) (s .args .words .now) in
+    let passed = e .enum-told .given .1 in
+    omega (
+      arith,
+      rows-short t (v .check-table .result) (v .check-table .ensures) passed .1 (s .args .mask .now) (s .args .value .now),
+      c .before .rows-length .ensures (s .args .mask .now) (s .args .value .now),
+      records-short t (v .check-table .result) (v .check-table .ensures) passed .1,
+      c .records-length .ensures,
+    )
 
 returns : tie.Need-returns
 returns c =
-    let s = c .before .before .before .before .before .before .before .before .before in
+    let v = c .before .before .before in
+    let s = v .before .before .before .before .before .before in
     let t = lent (s .args .width .now) (s .args .lock .now) (s .args .mask .now) (s .args .value .now) (s .args .words .now) in
-    let is = size-refused t (c .before .before .before .check-table .result) (c .before .before .before .check-table .ensures) _ (c .before .found .given .1) in
-    (is, size-covers t _ is)
+    size-refused t (v .check-table .result) (v .check-table .ensures) _ (c .before .found .given .1)
 
 returns-2 : tie.Need-returns-2
 returns-2 c =
-    let s = c .before .before .before .before .before .before .before .before in
+    let e = c .before .before in
+    let v = e .before .before in
+    let s = v .before .before .before .before .before .before in
     let t = lent (s .args .width .now) (s .args .lock .now) (s .args .mask .now) (s .args .value .now) (s .args .words .now) in
-    let is = size-done t (c .before .before .check-table .result) (c .before .before .check-table .ensures) (c .enum-told .given .1) in
-    (is, size-covers t _ is)
+    size-done t (v .check-table .result) (v .check-table .ensures) (e .enum-told .given .1) (c .before .rows-length .result) (c .records-length .result) (c .before .rows-length .ensures (s .args .mask .now) (s .args .value .now)) (c .records-length .ensures)
 
 pub size-spec : {M : Type 1} → statement M
 size-spec =
@@ -43,9 +57,9 @@ size-spec =
     (tie.spec
     (λ c κs. search needs)
     (λ c. search needs)
-    enum-told
-    mul-t10
     (λ c. search needs)
-    add-t14
+    rows-length-requires
+    records-length-requires
+    add-t11
     returns
     returns-2)

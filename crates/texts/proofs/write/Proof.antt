@@ -11,7 +11,7 @@ returns c =
     let p4 = p2 .before .before in
     let s = p4 .before .before .before .before .before .before .before in
     let t = lent (s .args .width .now) (s .args .lock .now) (s .args .mask .now) (s .args .value .now) (s .args .words .now) in
-    write-short t (s .args .out .now) (p4 .size .result) (p4 .size .ensures .0) _ (p2 .found2 .given .1) (c .if1 .taken)
+    write-short t (s .args .out .now) (p4 .size .result) (p4 .size .ensures) _ (p2 .found2 .given .1) (c .if1 .taken)
 
 put-rows-requires : tie.Need-put-rows-requires
 put-rows-requires c κs =
@@ -19,7 +19,7 @@ put-rows-requires c κs =
     let p5 = p3 .before .before in
     let s = p5 .before .before .before .before .before .before .before in
     let t = lent (s .args .width .now) (s .args .lock .now) (s .args .mask .now) (s .args .value .now) (s .args .words .now) in
-    (rows-fit t (s .args .out .now) (p5 .size .result) (p5 .size .ensures .0) _ (p3 .found2 .given .1) (c .before .if1 .left), rows-room t (s .args .out .now) (p5 .size .result) (p5 .size .ensures .0) _ (p3 .found2 .given .1) (c .before .if1 .left))
+    (rows-fit t (s .args .out .now) (p5 .size .result) (p5 .size .ensures) _ (p3 .found2 .given .1) (c .before .if1 .left), rows-room t (s .args .out .now) (p5 .size .result) (p5 .size .ensures) _ (p3 .found2 .given .1) (c .before .if1 .left))
 
 put-records-requires : tie.Need-put-records-requires
 put-records-requires c κs =
@@ -29,14 +29,14 @@ put-records-requires c κs =
     let p9 = p7 .before .before in
     let s = p9 .before .before .before .before .before .before .before in
     let t = lent (s .args .width .now) (s .args .lock .now) (s .args .mask .now) (s .args .value .now) (s .args .words .now) in
-    (records-fit t (s .args .out .now) (p9 .size .result) (p9 .size .ensures .0) _ (p7 .found2 .given .1) (p5 .if1 .left), records-room t (s .args .out .now) (p9 .size .result) (p9 .size .ensures .0) _ (p7 .found2 .given .1) (p5 .if1 .left) (p3 .put-rows .ensures))
+    (records-fit t (s .args .out .now) (p9 .size .result) (p9 .size .ensures) _ (p7 .found2 .given .1) (p5 .if1 .left), records-room t (s .args .out .now) (p9 .size .result) (p9 .size .ensures) _ (p7 .found2 .given .1) (p5 .if1 .left) (p3 .put-rows .ensures))
 
 returns-2 : tie.Need-returns-2
 returns-2 c =
     let p3 = c .before .before .before in
     let s = p3 .before .before .before .before .before .before .before in
     let t = lent (s .args .width .now) (s .args .lock .now) (s .args .mask .now) (s .args .value .now) (s .args .words .now) in
-    write-refused t (s .args .out .now) (p3 .size .result) (p3 .size .ensures .0) _ (c .before .found .given .1)
+    write-refused t (s .args .out .now) (p3 .size .result) (p3 .size .ensures) _ (c .before .found .given .1)
 
 returns-3 : tie.Need-returns-3
 returns-3 c =
@@ -47,7 +47,7 @@ returns-3 c =
     let p12 = p10 .before .before in
     let s = p12 .before .before .before .before .before .before .before in
     let t = lent (s .args .width .now) (s .args .lock .now) (s .args .mask .now) (s .args .value .now) (s .args .words .now) in
-    write-done t (s .args .out .now) (p12 .size .result) (p12 .size .ensures .0) _ (p10 .found2 .given .1) (p8 .if1 .left) (p6 .put-rows .ensures) (p2 .put-records .ensures)
+    write-done t (s .args .out .now) (p12 .size .result) (p12 .size .ensures) _ (p10 .found2 .given .1) (p8 .if1 .left) (p6 .put-rows .ensures) (p2 .put-records .ensures)
 
 pub write-spec : {M : Type 1} → statement M
 write-spec =

@@ -3,7 +3,7 @@ use mathlib.Core.Path.{sym, ap, subst}
 use native.Mathlib.Omega.{arith}
 use lib.ListN.{length}
 use Rattle.lines.specs.Put.{Put}
-use Rattle.lines.proofs.PutLines.{lock-word, open-word}
+use Rattle.grammar.proofs.LockWords.{lock-word, open-word}
 use borrow.Author.Needs.{needs}
 use Rattle.lines.proofs.put.put_lock.Statement.{statement}
 use Rattle.lines.proofs.put.put_lock.Tie as tie

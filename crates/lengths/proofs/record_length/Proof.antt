@@ -1,0 +1,40 @@
+-- `lengths::record_length`: the bytes that every record line has, its name's and its numbers' digits. Assumes nothing.
+use native.Mathlib.Omega.{arith}
+use lib.ListN.{length}
+use Rattle.operations.specs.Record.{wordsOf}
+use Rattle.grammar.proofs.Decimals.{length-most}
+use Rattle.grammar.proofs.Sizes.{name-most, record-bytes}
+use borrow.Author.Needs.{needs}
+use Rattle.lengths.proofs.record_length.Statement.{statement}
+use Rattle.lengths.proofs.record_length.Tie as tie
+
+-- a sum of all five is far below the greatest usize
+add-result-5 : tie.Need-add-result-5
+add-result-5 c =
+    let s = c .before .before .before .before .before .before in
+    let r = s .args .r in
+    omega (arith, name-most (r .kind) (s .pre), length-most (r .t), length-most (r .a), length-most (r .b), length-most (r .p))
+
+returns : tie.Need-returns
+returns c = let r = c .before .before .before .before .before .before .args .r in omega (arith, record-bytes (wordsOf r) (omega arith))
+
+pub record-length-spec : {M : Type 1} → statement M
+record-length-spec =
+    tie.close
+    (tie.spec
+    (λ c. search needs)
+    (λ c κs. search needs)
+    (λ c. search needs)
+    (λ c κs. search needs)
+    (λ c. search needs)
+    (λ c κs. search needs)
+    (λ c. search needs)
+    (λ c κs. search needs)
+    (λ c. search needs)
+    (λ c κs. search needs)
+    (λ c. omega (arith, add-result-5 c))
+    (λ c. omega (arith, add-result-5 c))
+    (λ c. omega (arith, add-result-5 c))
+    (λ c. omega (arith, add-result-5 c))
+    add-result-5
+    returns)
