@@ -1,5 +1,5 @@
 -- The size and write calls: each answer, and what is left of the buffer. Assumes nothing.
---   size-refused, size-passed, rows-short, records-short, size-done   size
+--   size-refused, size-done                size;   rows-short, records-short   what the two counting loops need
 --   written                                what write leaves where it is not refused
 --   write-refused, write-short, write-done   write
 --   rows-fit, rows-room, records-fit, records-room   what the two writing loops need
@@ -44,8 +44,8 @@ module _ (t : Table) (P : TablePassed t) where
   narrow : (i : ℕ) → i < length (t .widths) → getD (t .widths) i 0 ≤ widthLimit
   narrow i h = P .row-passed i h .width-most
 
-  known : RecordsFit (t .words)
-  known = record { whole = words-length t P; known = λ i h. P .record-passed i h .kind-known }
+  printable : RecordsFit (t .words)
+  printable = record { whole = words-length t P; known = λ i h. P .record-passed i h .kind-known }
 
 -- ---- size, by the verdict v of the checks
 
@@ -64,7 +64,7 @@ module _ (t : Table) (v : Verdict) (found : verdictModel v ≡ judged (sizeCheck
     rows-short = (passed .locks-length, λ ms vs. omega (arith, rows-size (lent (t .widths) (t .locks) ms vs []) (narrow t passed), passed .rows-most))
 
     pub records-short : RecordsFit (t .words) × (length (linesText (recordLines t)) ≤ textLimit)
-    records-short = (known t passed, omega (arith, records-size t passed, passed .records-most))
+    records-short = (printable t passed, omega (arith, records-size t passed, passed .records-most))
 
     -- the bytes of the row lines and of the record lines, added
     pub size-done : (n m : ℕ) → n ≡ length (linesText (rowLines t)) → m ≡ length (linesText (recordLines t)) → done (n + m) ≡ sizeOf t
@@ -125,7 +125,7 @@ module _ (t : Table) (out : List ℕ) (a : BytesAnswer) (found : bytesModel a �
       rows-room = omega (arith, long, text-length t)
 
       pub records-fit : RecordsFit (t .words)
-      records-fit = known t (size-is .0)
+      records-fit = printable t (size-is .0)
 
       module _ {mid : List ℕ} {at : ℕ} (p : Put out mid 0 at (linesText (rowLines t))) where
         pub records-room : Holds mid at (linesText (recordLines t))

@@ -1,6 +1,5 @@
 -- `lengths::record_length`: the bytes that every record line has, its name's and its numbers' digits. Assumes nothing.
 use native.Mathlib.Omega.{arith}
-use lib.ListN.{length}
 use Rattle.operations.specs.Record.{wordsOf}
 use Rattle.grammar.proofs.Decimals.{length-most}
 use Rattle.grammar.proofs.Sizes.{name-most, record-bytes}
