@@ -1,6 +1,8 @@
 // Prints the constants that include/rifflerleek.h repeats, one a line: name and number. tests/host/header compares the header with them.
+ghost use mathlib.Core.Path.{_≡_};
 ghost use lib.Dec.{T};
 ghost use Rattle.operations.specs.Kinds.{isKind};
+ghost use Rattle.grammar.specs.Limits.{rowBytes, recordBytes};
 use checks::limits;
 use checks::refusals;
 use lines::limits::NUMBER_LIMIT;
@@ -69,6 +71,20 @@ fn print_refusals() {
     print_refusal(b"buffer", refusals::BUFFER);
 }
 
+// The most bytes of a row line, as the definitions have it.
+fn row_bytes() -> usize
+    ensures { λ r. ⌜ r ≡ rowBytes ⌝ }
+{
+    ROW_BYTES
+}
+
+// The most bytes of a record line, as the definitions have it.
+fn record_bytes() -> usize
+    ensures { λ r. ⌜ r ≡ recordBytes ⌝ }
+{
+    RECORD_BYTES
+}
+
 fn print_limits() {
     print_line(b"row_limit", limits::ROW_LIMIT);
     print_line(b"record_limit", limits::RECORD_LIMIT);
@@ -77,8 +93,8 @@ fn print_limits() {
     print_line(b"parameter_limit", limits::PARAMETER_LIMIT as usize);
     print_line(b"text_limit", TEXT_LIMIT);
     print_line(b"number_limit", NUMBER_LIMIT as usize);
-    print_line(b"row_bytes", ROW_BYTES);
-    print_line(b"record_bytes", RECORD_BYTES);
+    print_line(b"row_bytes", row_bytes());
+    print_line(b"record_bytes", record_bytes());
 }
 
 fn main() {

@@ -1,4 +1,4 @@
--- What the writing of a table's lines needs.
+-- What the writing and the counting of a table's lines need.
 --   RowsFit ws ls ms vs   the rows can be printed: one lock, mask and value a row, and no width over the limit
 --   RecordsFit words      the records can be printed: whole records, and known kinds
 use mathlib.Core.Path.{_≡_}

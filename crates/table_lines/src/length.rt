@@ -12,7 +12,7 @@ use lengths::record_length;
 use lengths::row_length;
 use operations::RECORD_WORDS;
 
-// The bytes of a table's row lines, whatever letters its vectors have.
+// The bytes of a table's row lines, whatever letters its vectors have, where they are no more than a text may have.
 pub fn rows_length(width: &[u8], lock: &[u8]) -> usize
     requires { ⌜ (length (now lock) ≡ length (now width))
         × ((masks values : List ℕ) → length (linesText (rowLines (lent (now width) (now lock) masks values []))) ≤ textLimit) ⌝ }
@@ -28,7 +28,7 @@ pub fn rows_length(width: &[u8], lock: &[u8]) -> usize
     total
 }
 
-// The bytes of a table's record lines.
+// The bytes of a table's record lines, where they are no more than a text may have.
 pub fn records_length(words: &[u32]) -> usize
     requires { ⌜ RecordsFit (now words) × (length (linesText (recordLines (lent [] [] [] [] (now words)))) ≤ textLimit) ⌝ }
     ensures { λ r. ⌜ r ≡ length (linesText (recordLines (lent [] [] [] [] (now (words .entry))))) ⌝ }
