@@ -1,5 +1,5 @@
 // Two archives of the library in one program, on the same tables: before_run is rifflerleek_run of the older one. Fails if the
-// rows that they leave differ.
+// rows that they leave differ; rows named twice are not compared, since what they give changed with 02, request 2.
 #include "goals.h"
 #include "tables.h"
 
@@ -9,6 +9,7 @@ namespace {
 
 constexpr Goal mixed_goal = {"a run of the mixed table at most 0.8 of its time before", 0.8, false};
 constexpr Goal add_goal = {"a run of the add records at most 0.75 of its time before", 0.75, false};
+constexpr Goal twice_goal = {"a run of records that name one row twice at most its time before", 1, false};
 
 // Whether both leave the same rows.
 bool agree(const Table &start)
@@ -32,7 +33,7 @@ int main()
     std::vector<Table> starts = draw_tables(), tables = starts;
     std::vector<Pass> contestants;
     for (std::size_t i = 0; i < starts.size(); i++) {
-        if (!agree(starts[i])) {
+        if (!plans[i].twice && !agree(starts[i])) {
             std::printf("%s: the two archives leave different rows\n", plans[i].name);
             return 1;
         }
@@ -50,5 +51,6 @@ int main()
     std::printf("\n");
     print_verdict(mixed_goal, {{plans[MIXED].name, times[4 * MIXED + 1] / times[4 * MIXED]}});
     print_verdict(add_goal, {{plans[ADD].name, times[4 * ADD + 1] / times[4 * ADD]}});
+    print_verdict(twice_goal, {{plans[TWICE].name, times[4 * TWICE + 1] / times[4 * TWICE]}});
     return 0;
 }

@@ -5,7 +5,7 @@
 namespace {
 
 const Groups all_rows = {{32, 0, 200}, {16, 200, 28}, {1, 228, 28}};
-const Plan largest = {"every kind, mixed", all_rows, true, 0, KINDS};
+const Plan largest = {"every kind, mixed", all_rows, true, false, 0, KINDS};
 constexpr std::size_t LINES = RIFFLERLEEK_ROW_LIMIT + RECORDS;
 
 std::size_t result_of(const char *call, rifflerleek_answer a)

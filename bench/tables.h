@@ -22,11 +22,12 @@ struct Shape {
     uint32_t kind, t, a, b, p, numbers;
 };
 
-// What a table is made of. Where records are chained they read open rows too, so what others wrote, else inputs alone.
+// What a table is made of. Where records are chained they read open rows too, so what others wrote, else inputs alone. Where they
+// name twice, all are of kinds with two operands, and both words name one row; else the two rows differ.
 struct Plan {
     const char *name;
     const Groups &groups;
-    bool chained;
+    bool chained, twice;
     uint32_t first_kind, kinds;
 };
 
@@ -49,13 +50,14 @@ inline constexpr Shape shapes[KINDS] = {
 inline const Groups one_width = {{32, 0, 64}};
 inline const Groups three_widths = {{32, 0, 40}, {16, 40, 12}, {1, 52, 12}};
 
-// Two of the plans by number.
-enum { MIXED, ADD };
+// The plans by number.
+enum { MIXED, ADD, MUL, TWICE };
 
 inline const Plan plans[] = {
-    {"every kind, mixed", three_widths, true, 0, KINDS},
-    {"add", one_width, false, RIFFLERLEEK_KIND_ADD, 1},
-    {"mul", one_width, false, RIFFLERLEEK_KIND_MUL, 1},
+    {"every kind, mixed", three_widths, true, false, 0, KINDS},
+    {"add", one_width, false, false, RIFFLERLEEK_KIND_ADD, 1},
+    {"mul", one_width, false, false, RIFFLERLEEK_KIND_MUL, 1},
+    {"every operand named twice", three_widths, true, true, 0, KINDS},
 };
 
 inline const Group &group_of(const Plan &plan, uint32_t width)
@@ -89,12 +91,32 @@ inline uint32_t draw_operand(std::mt19937 &random, const Plan &plan, uint32_t wi
     return g.first + below(random, plan.chained ? g.count : g.count / 2);
 }
 
+// The second row to read, beside the first.
+inline uint32_t draw_second(std::mt19937 &random, const Plan &plan, const Shape &s, uint32_t first)
+{
+    if (plan.twice)
+        return first;
+    uint32_t second = draw_operand(random, plan, s.b);
+    while (s.b != 0 && second == first)
+        second = draw_operand(random, plan, s.b);
+    return second;
+}
+
+inline const Shape &draw_shape(std::mt19937 &random, const Plan &plan)
+{
+    for (;;) {
+        const Shape &s = shapes[plan.first_kind + below(random, plan.kinds)];
+        if (s.b != 0 || !plan.twice)
+            return s;
+    }
+}
+
 inline void draw_record(std::mt19937 &random, const Plan &plan, Table &t)
 {
-    const Shape &s = shapes[plan.first_kind + below(random, plan.kinds)];
+    const Shape &s = draw_shape(random, plan);
     uint32_t target = draw_target(random, plan, s.t);
     uint32_t a = draw_operand(random, plan, s.a);
-    uint32_t b = draw_operand(random, plan, s.b);
+    uint32_t b = draw_second(random, plan, s, a);
     uint32_t p = s.numbers > 0 ? below(random, s.numbers) : draw_operand(random, plan, s.p);
     t.words.insert(t.words.end(), {s.kind, target, a, b, p});
 }

@@ -31,7 +31,7 @@ extern "C" {
 
 /* Rises by one with every change that a host can see: of a name, a number, a call, an answer or a lent byte. The header that had
  * no version is version 1. CHANGELOG.md names the changes. */
-#define RIFFLERLEEK_VERSION 3
+#define RIFFLERLEEK_VERSION 4
 
 /* Limits. */
 #define RIFFLERLEEK_ROW_LIMIT 256      /* rows in a table */
@@ -112,7 +112,8 @@ enum {
 };
 
 /* Runs the records from first up to but not including last, after a check of the whole table. result is last, and mask and value
- * hold the rows that the stretch leaves, each target the best vector that covers every result. Refusals 1 to 10: no row is
+ * hold the rows that the stretch leaves, each target the best vector that covers every result. Where the words a and b of a record
+ * name one row, both operands are the same number; for RIFFLERLEEK_KIND_MUL they stay independent. Refusals 1 to 10: no row is
  * changed, also not by the records before the one refused. */
 rifflerleek_answer rifflerleek_run(const uint8_t *width, size_t widths, const uint8_t *lock, size_t locks, uint32_t *mask,
                                    size_t masks, uint32_t *value, size_t values, const uint32_t *words, size_t word_count,

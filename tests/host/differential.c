@@ -1,6 +1,6 @@
 // Random calls, valid and damaged: the library and the reference must give the same answer and leave the same bytes, also
-// around and beyond what they write. Every answer of every call, and every kind of record, must occur, and no call may take more
-// stack than the header says.
+// around and beyond what they write. Every answer of every call, and every kind of record, must occur, each kind of two operands also
+// with one row named twice, and no call may take more stack than the header says.
 // usage: differential [SEED [CALLS]]
 #include "compare.h"
 #include <stdio.h>
@@ -10,7 +10,7 @@
 // The answers that each call has, as bits: bit 0 for a result, bit n for refusal n.
 static const unsigned answers[CALLS] = {0x7ff, 0x0b7, 0x3ff, 0x43ff, 0x3805, 0x0001};
 
-static unsigned steps[KINDS];
+static unsigned steps[KINDS], steps_twice[KINDS];
 
 static struct draft d;
 static struct text text;
@@ -37,8 +37,11 @@ static void call_run(void)
     t = lend_table(&d, &r);
     rifflerleek_answer a = library_run(&t, d.first, d.last);
     compare(RUN, a, ref_run(&r, d.first, d.last, LIMIT, &exact));
-    for (size_t i = d.first; i < d.last && a.refusal == 0; i++)
-        steps[d.words[5 * i]]++;
+    for (size_t i = d.first; i < d.last && a.refusal == 0; i++) {
+        const uint32_t *record = d.words + 5 * i;
+        steps[record[0]]++;
+        steps_twice[record[0]] += (unsigned)ref_named_twice(record);
+    }
 }
 
 static void call_count(void)
@@ -160,6 +163,12 @@ static int report(void)
         printf(" %s %u", kinds[k].name, steps[k]);
         missing += steps[k] == 0;
     }
+    printf("\none row named twice:");
+    for (int k = 0; k < KINDS; k++)
+        if (kinds[k].b == ROW) {
+            printf(" %s %u", kinds[k].name, steps_twice[k]);
+            missing += steps_twice[k] == 0;
+        }
     printf("\n");
     return missing;
 }

@@ -78,6 +78,8 @@ static int draw_words(struct draft *d, size_t r)
         w[i] = (uint32_t)below(d->widths);
     if (kinds[w[0]].b != ROW)
         w[3] = 0;
+    else if (percent(5))
+        w[3] = w[2];
     if (kinds[w[0]].p != ROW)
         w[4] = kinds[w[0]].p == NUMBER ? (uint32_t)below(percent(50) ? 32 : 4) : 0;
     return ref_record(&t, r, 1) == 0;

@@ -19,7 +19,7 @@ struct ref_table {
     size_t widths, locks, masks, values, word_count;
 };
 
-enum { KINDS = 21, ITE = 20 };
+enum { KINDS = 21, MUL = 16, ITE = 20 };
 
 // What a word of a record means for its kind.
 enum use { NOTHING, ROW, NUMBER };
@@ -32,9 +32,11 @@ struct kind {
 extern const struct kind kinds[KINDS];
 
 // A record's operation on plain numbers: widths of target and operands, parameter, and the operands a, b and the row of p.
+// one_number: a and b are one row, which gives one number for both.
 struct ref_op {
     uint32_t kind, p;
     unsigned wt, w[3];
+    int one_number;
 };
 
 uint64_t ref_bit(uint64_t n, unsigned k);
@@ -53,6 +55,9 @@ uint32_t ref_record(const struct ref_table *t, size_t r, int locked_too);
 
 // Refusals 1 to 10: without a stretch (no check of first and last, and no 10) where run is 0.
 struct ref_answer ref_check(const struct ref_table *t, int run, size_t first, size_t last);
+
+// Whether the words of a record of a known kind name one row as both operands.
+int ref_named_twice(const uint32_t *record);
 
 // One record's step. 0 where it would take more than 2^limit choices for a bit: the rows are then as they were.
 int ref_step(struct ref_table *t, size_t r, unsigned limit);

@@ -13,6 +13,10 @@ static int enumerate(const struct ref_op *o, const struct vector v[3], unsigned 
     uint64_t need[3], a = 0, b = 0, c = 0;
     unsigned unknown = 0;
     ref_needed(o, k, need);
+    if (o->one_number) { // only a is varied, and b is a
+        need[0] |= need[1];
+        need[1] = 0;
+    }
     for (int j = 0; j < 3; j++) {
         need[j] &= v[j].mask;
         unknown += (unsigned)__builtin_popcountll(need[j]);
@@ -23,7 +27,7 @@ static int enumerate(const struct ref_op *o, const struct vector v[3], unsigned 
     do { // n = (n - m) & m goes through the subsets of m, and back to 0
         do {
             do {
-                seen |= 1 << ref_bit(ref_plain(o, v[0].value | a, v[1].value | b, v[2].value | c), k);
+                seen |= 1 << ref_bit(ref_plain(o, v[0].value | a, o->one_number ? v[0].value | a : v[1].value | b, v[2].value | c), k);
                 if (seen == 3)
                     return 3;
                 a = (a - need[0]) & need[0];
@@ -45,7 +49,7 @@ static int by_carries(const struct ref_op *o, const struct vector v[3], unsigned
         seen = 0;
         for (int n = 0; n < 8; n++) {
             int x = n & 1, y = n >> 1 & 1, carry = n >> 2;
-            if (!(carries >> carry & 1) || (!ref_bit(a.mask, i) && x != (int)ref_bit(a.value, i)) || (!ref_bit(b.mask, i) && y != (int)ref_bit(b.value, i)))
+            if (!(carries >> carry & 1) || (o->one_number && x != y) || (!ref_bit(a.mask, i) && x != (int)ref_bit(a.value, i)) || (!ref_bit(b.mask, i) && y != (int)ref_bit(b.value, i)))
                 continue;
             int sum = o->kind == 13 ? x + y + carry : x - y - carry;
             seen |= 1 << (sum & 1);
@@ -56,9 +60,12 @@ static int by_carries(const struct ref_op *o, const struct vector v[3], unsigned
     return seen;
 }
 
-// The same for eq, ult and slt without a limit: by known bits that differ, and by the least and greatest operands.
+// The same for eq, ult and slt without a limit: by known bits that differ, and by the least and greatest operands. One number is equal to
+// itself, and not less.
 static int by_extremes(const struct ref_op *o, const struct vector v[3])
 {
+    if (o->one_number)
+        return o->kind == 17 ? 2 : 1;
     uint64_t top = o->kind == 19 ? (uint64_t)1 << (o->w[0] - 1) : 0;
     uint64_t low[2], high[2];
     for (int j = 0; j < 2; j++) { // 2^(w-1) added modulo 2^w turns the signed order into the plain one
@@ -88,11 +95,16 @@ static int values_at(const struct ref_op *o, const struct vector v[3], unsigned 
     return other;
 }
 
+int ref_named_twice(const uint32_t *record)
+{
+    return kinds[record[0]].b == ROW && record[2] == record[3];
+}
+
 int ref_step(struct ref_table *t, size_t r, unsigned limit)
 {
     const uint32_t *w = t->words + 5 * r;
     struct kind kind = kinds[w[0]];
-    struct ref_op o = {w[0], kind.p == NUMBER ? w[4] : 0, t->width[w[1]], {0, 0, 0}};
+    struct ref_op o = {w[0], kind.p == NUMBER ? w[4] : 0, t->width[w[1]], {0, 0, 0}, ref_named_twice(w) && w[0] != MUL};
     struct vector v[3] = {{0, 0}, {0, 0}, {0, 0}}, result = {0, 0};
     enum use uses[3] = {kind.a, kind.b, kind.p};
     for (int j = 0; j < 3; j++)

@@ -4,7 +4,7 @@
 --   low-le       the lowest bits in order
 --   le-of-bits   whole numbers in order
 --   or-cases     a set bit of m | n is one of m or of n
---   or-zero      numbers whose | is 0 are 0
+--   or-zero      numbers whose | is 0 are 0;  xor-zero   numbers whose ^ is 0 are equal
 --   shifted-bit, shifted-one   a bit at place i of a word
 use mathlib.Core.Path.{_≡_, ap, _∙_}
 use mathlib.Core.Logic.{_⊎_, inl, inr}
@@ -12,7 +12,7 @@ use Prim.Native.Nat.{ℕ, zero, suc, _+_, _-_, _*_, _%_, _^_, _≤_, _<_, min}
 use native.Mathlib.Nat.{mod-one, mod-eq-of-lt, mul-le-mul-right, one-mul}
 use native.Mathlib.Omega.{arith}
 use lib.Pow.{mod-mod-pow, shl-exact}
-use lib.Bits.{bitAnd, bitOr, and-le-l, and-le-r, or-add-and}
+use lib.Bits.{bitAnd, bitOr, bitXor, and-le-l, and-le-r, or-add-and, xor-add-and}
 use Rattle.bits.specs.Bit.{bit}
 use Rattle.bits.proofs.Bits.{bit-and, bit-or, bit-cases}
 use Rattle.bits.proofs.Shifts.{mod-pow-suc}
@@ -43,6 +43,9 @@ or-cases m n k e = elim (bit-cases m k) [
 
 pub or-zero : (m n : ℕ) → bitOr m n ≡ 0 → (m ≡ 0) × (n ≡ 0)
 or-zero m n e = omega (arith, or-add-and m n, and-le-l m n, and-le-r m n)
+
+pub xor-zero : (m n : ℕ) → bitXor m n ≡ 0 → m ≡ n
+xor-zero m n e = omega (arith, xor-add-and m n, and-le-l m n, and-le-r m n)
 
 pub shifted-bit : (v u i : ℕ) → u < 2 → i < v → u * 2 ^ i % 2 ^ v ≡ u * 2 ^ i
 shifted-bit v u i h l = shl-exact 1 i v h (omega arith)

@@ -1,6 +1,6 @@
 // The executed tests: every vector pair to width 4, through the public run on real tables, against plain enumeration of all choices.
-// The output has a line for each kind, then one for `product_bit`, one for the examples and the total: the name, the tables tried (for `product_bit` the
-// bits), those that disagree.
+// The output has a line for each kind, then one for all records that name one row twice, one for `product_bit`, one for the examples and the total: the
+// name, the tables tried (for `product_bit` the bits), those that disagree.
 use oracle::shapes::KINDS;
 use product_bits::product_bits;
 use report::print_kind;
@@ -16,14 +16,18 @@ mod sweeps; // sweeps.rt: all tables of a kind
 
 fn main() {
     let mut total = none();
+    let mut twice = none();
     let mut kind: u64 = 0;
     while kind < KINDS {
-        let tally = sweep(kind);
+        let tally = sweep(kind, false);
         print_kind(kind as usize);
         print_line(tally);
         total = joined(total, tally);
+        twice = joined(twice, sweep(kind, true));
         kind += 1;
     }
+    io::write_all(1, b"named twice");
+    print_line(twice);
     let bits = product_bits();
     io::write_all(1, b"product_bit");
     print_line(bits);
@@ -31,5 +35,5 @@ fn main() {
     io::write_all(1, b"examples");
     print_line(shown);
     io::write_all(1, b"total");
-    print_line(joined(total, joined(bits, shown)));
+    print_line(joined(joined(total, twice), joined(bits, shown)));
 }

@@ -1,4 +1,4 @@
-// All tables of a kind: every width, parameter and vector.
+// All tables of a kind: every width, parameter and vector. Where `twice` holds, those in which both operand words name one row.
 ghost use mathlib.Core.Bool.{true};
 ghost use mathlib.Core.Path.{_≡_};
 ghost use Prim.Native.Nat.{_≤_, _<_};
@@ -12,6 +12,7 @@ use oracle::shapes::fits;
 use oracle::shapes::uses_condition;
 use oracle::shapes::uses_second;
 use trials::agrees;
+use trials::agrees_twice;
 use trials::counting::Tally;
 use trials::counting::joined;
 use trials::counting::none;
@@ -54,8 +55,18 @@ pub fn well_formed(w: u64, v: Row) -> bool
     v.mask & v.value == 0
 }
 
+// Whether run and the enumeration agree.
+fn tried(s: Shape, twice: bool, a: Row, b: Row, c: Row) -> Tally
+    requires { ⌜ Sized (s .wt) (s .wa) (s .wb) (s .p) ⌝ }
+{
+    if twice {
+        return one(agrees_twice(s, a, c));
+    }
+    one(agrees(s, a, b, c))
+}
+
 // Every condition, where the kind uses one.
-fn each_condition(s: Shape, a: Row, b: Row) -> Tally
+fn each_condition(s: Shape, twice: bool, a: Row, b: Row) -> Tally
     requires { ⌜ Sized (s .wt) (s .wa) (s .wb) (s .p) ⌝ }
 {
     let end = pairs(uses_condition(s.kind), 1);
@@ -64,25 +75,25 @@ fn each_condition(s: Shape, a: Row, b: Row) -> Tally
     while n < end {
         let c = pair(1, n);
         if well_formed(1, c) {
-            tally = joined(tally, one(agrees(s, a, b, c)));
+            tally = joined(tally, tried(s, twice, a, b, c));
         }
         n += 1;
     }
     tally
 }
 
-// Every second operand, where the kind uses one.
-fn each_second(s: Shape, a: Row) -> Tally
+// Every second operand, where the kind uses one and it is another row.
+fn each_second(s: Shape, twice: bool, a: Row) -> Tally
     requires { ⌜ Sized (s .wt) (s .wa) (s .wb) (s .p) ⌝ }
     requires { ⌜ s .wb ≤ 4 ⌝ }
 {
-    let end = pairs(uses_second(s.kind), s.wb);
+    let end = pairs(uses_second(s.kind) && !twice, s.wb);
     let mut tally = none();
     let mut n: u64 = 0;
     while n < end {
         let b = pair(s.wb, n);
         if well_formed(s.wb, b) {
-            tally = joined(tally, each_condition(s, a, b));
+            tally = joined(tally, each_condition(s, twice, a, b));
         }
         n += 1;
     }
@@ -90,7 +101,7 @@ fn each_second(s: Shape, a: Row) -> Tally
 }
 
 // Every first operand.
-fn each_first(s: Shape) -> Tally
+fn each_first(s: Shape, twice: bool) -> Tally
     requires { ⌜ Sized (s .wt) (s .wa) (s .wb) (s .p) ⌝ }
     requires { ⌜ (s .wa ≤ 4) × (s .wb ≤ 4) ⌝ }
 {
@@ -100,7 +111,7 @@ fn each_first(s: Shape) -> Tally
     while n < end {
         let a = pair(s.wa, n);
         if well_formed(s.wa, a) {
-            tally = joined(tally, each_second(s, a));
+            tally = joined(tally, each_second(s, twice, a));
         }
         n += 1;
     }
@@ -122,14 +133,19 @@ fn shape(kind: u64, n: u64) -> Shape
     }
 }
 
+// Whether both operand words can name one row.
+fn can_name_twice(s: Shape) -> bool {
+    uses_second(s.kind) && s.wb == s.wa
+}
+
 // Every table of a kind.
-pub fn sweep(kind: u64) -> Tally {
+pub fn sweep(kind: u64, twice: bool) -> Tally {
     let mut tally = none();
     let mut n: u64 = 0;
     while n < 16384 {
         let s = shape(kind, n);
-        if fits(s) {
-            tally = joined(tally, each_first(s));
+        if fits(s) && (!twice || can_name_twice(s)) {
+            tally = joined(tally, each_first(s, twice));
         }
         n += 1;
     }

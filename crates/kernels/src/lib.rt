@@ -1,4 +1,4 @@
-// From a kind to its kernel: the one place that picks.
+// From a kind to its kernel, over independent operands.
 use logic::choice;
 use logic::comparison;
 use logic::logical;

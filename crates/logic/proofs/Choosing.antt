@@ -36,7 +36,7 @@ module _ (w ma va mb vb mc vc : ℕ) (R : Ready opIte w 0 (row w ma va ∷ row w
   C : WellFormed (row 1 mc vc)
   C = R .formed .1 .1 .0
 
-  -- the numbers that the condition may covered-bit
+  -- the numbers that the condition may pick
   Picked : ℕ → Type 0
   Picked n = (Covers (row 1 mc vc) 1 × Covers (row w ma va) n) ⊎ (Covers (row 1 mc vc) 0 × Covers (row w mb vb) n)
 
@@ -57,7 +57,7 @@ module _ (w ma va mb vb mc vc : ℕ) (R : Ready opIte w 0 (row w ma va ∷ row w
   result n (inl p) = record { numbers = n ∷ vb ∷ 1 ∷ []; chosen = (p .1, (covers-value (row w mb vb) B, (p .0, tt))); gives = refl }
   result n (inr p) = record { numbers = va ∷ n ∷ 0 ∷ []; chosen = (covers-value (row w ma va) A, (p .1, (p .0, tt))); gives = refl }
 
-  -- the best vector for what the condition may covered-bit is the kind's result
+  -- the best vector for what the condition may pick is the kind's result
   by-hull : (r : Row) → Hull w Picked r → r ≡ resultOf opIte w 0 rows
   unfolding rows picks resultOf opIte
   by-hull r H = best-of-hull w picks rows r (R .formed) (hull-iff w Picked (Results picks rows) r result picked H)

@@ -12,7 +12,7 @@ use native.Mathlib.Omega.{arith}
 use lib.Dec.{T, eqb, eqb→eq, eqb-refl, T-not, not-T}
 use lib.ListN.{getD}
 use lib.Pow.{pow-pos, pow-mono}
-use lib.Bits.{bitAnd, bitOr, bitXor, differ, and-le-l, and-le-r, or-lt, or-comm, xor-lt, xor-add-and, or-disjoint, xor-self}
+use lib.Bits.{bitAnd, bitOr, bitXor, differ, and-le-l, or-lt, or-comm, xor-lt, or-disjoint, xor-self}
 use Rattle.bits.specs.Bit.{bit, digit}
 use Rattle.bits.proofs.Bools.{eq→eqb}
 use Rattle.bits.proofs.Bits.{bit-lt, bit-cases, bit-or, bit-xor, bit-ext, bit-of-zero}
@@ -22,7 +22,7 @@ use Rattle.vectors.specs.Best.{best}
 use Rattle.vectors.proofs.Rows.{covers-value, covers-top, and-of-apart}
 use Rattle.vectors.proofs.Joins.{differ-cases}
 use Rattle.vectors.proofs.BestLaws.{known-covers}
-use Rattle.bits.proofs.Words.{bit-clear, or-zero}
+use Rattle.bits.proofs.Words.{bit-clear, or-zero, xor-zero}
 use Rattle.vectors.proofs.Operands.{chosen-at}
 use Rattle.logic.proofs.Tests.{Tells, Tested, tests-best}
 
@@ -46,9 +46,6 @@ meets w m v m′ v′ F G same =
         | inr z ↦ let d = G .apart k z in omega arith
       ];
     }
-
-xor-zero : (p q : ℕ) → bitXor p q ≡ 0 → p ≡ q
-xor-zero p q e = omega (arith, xor-add-and p q, and-le-l p q, and-le-r p q)
 
 -- the greatest number that a row covers, as a sum
 top-sum : (w m v : ℕ) → WellFormed (row w m v) → bitOr v m ≡ v + m

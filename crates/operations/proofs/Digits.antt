@@ -6,6 +6,7 @@ use Prim.Native.Nat.{ℕ, _+_, _*_, _/_, _%_, _<_}
 use native.Mathlib.Omega.{arith}
 use lib.Dec.{T, eqb, eqb→eq}
 use lib.ListN.{length}
+use Rattle.bits.specs.Bit.{digit}
 use Rattle.bits.specs.Below.{allBelow}
 use Rattle.bits.proofs.Bools.{T-left, T-right}
 use Rattle.operations.specs.Kind.{Rule, sameWidth, sameWidths, takenWidth, joinedWidths, extendedWidth, comparedWidths, chosenWidths, Kind}
@@ -32,6 +33,9 @@ secondOf k = useCode (k .use-b)
 abbrev parameterOf : Kind → ℕ
 parameterOf k = useCode (k .use-p)
 
+abbrev correlatedOf : Kind → ℕ
+correlatedOf k = digit (k .correlated)
+
 abbrev ruleOf : Kind → ℕ
 ruleOf k = ruleCode (k .rule)
 
@@ -41,7 +45,7 @@ lengthOf k = length (k .name)
 right : ℕ → Bool
 right n =
     eqb (digitsOf secondOf n) (secondOf (kindOf n)) && eqb (digitsOf parameterOf n) (parameterOf (kindOf n)) && eqb (pairsOf ruleOf n) (ruleOf (kindOf n))
-    && eqb (pairsOf lengthOf n) (lengthOf (kindOf n))
+    && eqb (pairsOf lengthOf n) (lengthOf (kindOf n)) && eqb (digitsOf correlatedOf n) (correlatedOf (kindOf n))
 
 all-right : T (allBelow kindCount right)
 unfolding right allBelow kindCount kindOf digitsOf pairsOf
@@ -60,21 +64,27 @@ module _ (n : ℕ) (h : T (isKind n)) where
   abbrev d : Bool
   d = eqb (pairsOf lengthOf n) (lengthOf (kindOf n))
 
-  whole : T (a && b && c && d)
+  abbrev e : Bool
+  e = eqb (digitsOf correlatedOf n) (correlatedOf (kindOf n))
+
+  whole : T (a && b && c && d && e)
   unfolding right
   whole = kind-test right all-right n h
 
   pub second-is : digitsOf (λ k. useCode (k .use-b)) n ≡ useCode (kindOf n .use-b)
-  second-is = eqb→eq (digitsOf secondOf n) (secondOf (kindOf n)) (T-left a b (T-left (a && b) c (T-left (a && b && c) d whole)))
+  second-is = eqb→eq (digitsOf secondOf n) (secondOf (kindOf n)) (T-left a b (T-left (a && b) c (T-left (a && b && c) d (T-left (a && b && c && d) e whole))))
 
   pub parameter-is : digitsOf (λ k. useCode (k .use-p)) n ≡ useCode (kindOf n .use-p)
-  parameter-is = eqb→eq (digitsOf parameterOf n) (parameterOf (kindOf n)) (T-right a b (T-left (a && b) c (T-left (a && b && c) d whole)))
+  parameter-is = eqb→eq (digitsOf parameterOf n) (parameterOf (kindOf n)) (T-right a b (T-left (a && b) c (T-left (a && b && c) d (T-left (a && b && c && d) e whole))))
 
   pub rule-is : pairsOf (λ k. ruleCode (k .rule)) n ≡ ruleCode (kindOf n .rule)
-  rule-is = eqb→eq (pairsOf ruleOf n) (ruleOf (kindOf n)) (T-right (a && b) c (T-left (a && b && c) d whole))
+  rule-is = eqb→eq (pairsOf ruleOf n) (ruleOf (kindOf n)) (T-right (a && b) c (T-left (a && b && c) d (T-left (a && b && c && d) e whole)))
 
   pub length-is : pairsOf (λ k. length (k .name)) n ≡ length (kindOf n .name)
-  length-is = eqb→eq (pairsOf lengthOf n) (lengthOf (kindOf n)) (T-right (a && b && c) d whole)
+  length-is = eqb→eq (pairsOf lengthOf n) (lengthOf (kindOf n)) (T-right (a && b && c) d (T-left (a && b && c && d) e whole))
+
+  pub correlated-is : digitsOf (λ k. digit (k .correlated)) n ≡ digit (kindOf n .correlated)
+  correlated-is = eqb→eq (digitsOf correlatedOf n) (correlatedOf (kindOf n)) (T-right (a && b && c && d) e whole)
 
 -- ---- the code of a rule and the rule of a code
 

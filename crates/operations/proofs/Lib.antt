@@ -4,6 +4,8 @@ pub mod Bounded
 pub mod Lookup
 pub mod Digits
 pub mod Sound
+pub mod Twice
+pub mod DoubledKinds
 pub mod Spelling
 pub mod SmtBits
 pub mod SmtNat

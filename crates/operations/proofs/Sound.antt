@@ -1,6 +1,6 @@
 -- What the description of every kind keeps to, as one computed test. Assumes nothing.
 --   suits r ua ub up   the words that name the rows whose widths the rule asks for are rows
---   first-is-row, rule-suits, condition-chosen   the parts of the test, of the kind that has a number
+--   first-is-row, rule-suits, condition-chosen, second-is-row   the parts of the test, of the kind that has a number
 use mathlib.Core.Path.{_≡_, refl}
 use mathlib.Core.Bool.{Bool, true, false, not, _&&_, _||_}
 use Prim.Native.Nat.{ℕ}
@@ -49,7 +49,7 @@ chosen-is comparedWidths t = absurd t
 chosen-is chosenWidths t = refl
 
 sound : Kind → Bool
-sound k = isRow (k .use-a) && suits (k .rule) (k .use-b) (k .use-p) && (not (isRow (k .use-p)) || isChosen (k .rule))
+sound k = isRow (k .use-a) && suits (k .rule) (k .use-b) (k .use-p) && (not (isRow (k .use-p)) || isChosen (k .rule)) && (not (k .correlated) || isRow (k .use-b))
 
 all-sound : T (allBelow kindCount (λ n. sound (kindOf n)))
 unfolding sound allBelow kindCount kindOf
@@ -68,21 +68,28 @@ module _ (n : ℕ) (h : T (isKind n)) where
   abbrev c : Bool
   c = not (isRow (k .use-p)) || isChosen (k .rule)
 
-  whole : T (a && b && c)
+  abbrev d : Bool
+  d = not (k .correlated) || isRow (k .use-b)
+
+  implied : (x y : Bool) → T (not x || y) → T x → T y
+  implied true y u v = u
+  implied false y u v = absurd v
+
+  whole : T (a && b && c && d)
   unfolding sound
   whole = kind-test (λ m. sound (kindOf m)) all-sound n h
 
   -- the word a is a row
   pub first-is-row : k .use-a ≡ asRow
-  first-is-row = row-is (k .use-a) (T-left a b (T-left (a && b) c whole))
+  first-is-row = row-is (k .use-a) (T-left a b (T-left (a && b) c (T-left (a && b && c) d whole)))
 
   pub rule-suits : T (suits (k .rule) (k .use-b) (k .use-p))
-  rule-suits = T-right a b (T-left (a && b) c whole)
+  rule-suits = T-right a b (T-left (a && b) c (T-left (a && b && c) d whole))
 
   -- a condition row is one bit wide: the rule that asks it
   pub condition-chosen : T (isRow (k .use-p)) → k .rule ≡ chosenWidths
-  condition-chosen t = chosen-is (k .rule) (implied (isRow (k .use-p)) (isChosen (k .rule)) (T-right (a && b) c whole) t)
-    where
-      implied : (x y : Bool) → T (not x || y) → T x → T y
-      implied true y u v = u
-      implied false y u v = absurd v
+  condition-chosen t = chosen-is (k .rule) (implied (isRow (k .use-p)) (isChosen (k .rule)) (T-right (a && b) c (T-left (a && b && c) d whole)) t)
+
+  -- where operands named twice are one number, the word b is a row
+  pub second-is-row : T (k .correlated) → k .use-b ≡ asRow
+  second-is-row t = row-is (k .use-b) (implied (k .correlated) (isRow (k .use-b)) (T-right (a && b && c) d whole) t)

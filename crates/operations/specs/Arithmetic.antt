@@ -1,7 +1,7 @@
 -- Kinds 13 to 20: sums, products, comparison and choice (01, "Records" and "Points and plain runs"). Each kind is described here and nowhere else.
 --   opAdd opSub opNeg opMul opEq opUlt opSlt opIte
 -- In a plain number, w is the width of the first operand, first ws, and a, b are the operands' numbers.
-use mathlib.Core.Bool.{cond}
+use mathlib.Core.Bool.{true, false, cond}
 use Prim.Native.Nat.{_+_, _-_, _*_, _%_, _^_}
 use lib.Dec.{eqb, ltb}
 use Rattle.bits.specs.Bit.{bit, digit}
@@ -16,6 +16,7 @@ opAdd =
       use-a = asRow;
       use-b = asRow;
       use-p = unused;
+      correlated = true;
       rule = sameWidths;
       plain = λ wt ws p ns. (first ns + second ns) % 2 ^ first ws;
     }
@@ -29,6 +30,7 @@ opSub =
       use-a = asRow;
       use-b = asRow;
       use-p = unused;
+      correlated = true;
       rule = sameWidths;
       plain = λ wt ws p ns. (2 ^ first ws + first ns - second ns) % 2 ^ first ws;
     }
@@ -42,11 +44,12 @@ opNeg =
       use-a = asRow;
       use-b = unused;
       use-p = unused;
+      correlated = false;
       rule = sameWidth;
       plain = λ wt ws p ns. (2 ^ first ws - first ns) % 2 ^ first ws;
     }
 
--- mul: a · b modulo 2^w
+-- mul: a · b modulo 2^w. "For mul the operands stay independent." (02, request 2)
 unfoldable pub opMul : Kind
 opMul =
     record {
@@ -55,6 +58,7 @@ opMul =
       use-a = asRow;
       use-b = asRow;
       use-p = unused;
+      correlated = false;
       rule = sameWidths;
       plain = λ wt ws p ns. first ns * second ns % 2 ^ first ws;
     }
@@ -68,6 +72,7 @@ opEq =
       use-a = asRow;
       use-b = asRow;
       use-p = unused;
+      correlated = true;
       rule = comparedWidths;
       plain = λ wt ws p ns. digit (eqb (first ns) (second ns));
     }
@@ -81,6 +86,7 @@ opUlt =
       use-a = asRow;
       use-b = asRow;
       use-p = unused;
+      correlated = true;
       rule = comparedWidths;
       plain = λ wt ws p ns. digit (ltb (first ns) (second ns));
     }
@@ -94,6 +100,7 @@ opSlt =
       use-a = asRow;
       use-b = asRow;
       use-p = unused;
+      correlated = true;
       rule = comparedWidths;
       plain = λ wt ws p ns. digit (ltb (first ns + 2 ^ first ws * bit (second ns) (first ws - 1)) (second ns + 2 ^ first ws * bit (first ns) (first ws - 1)));
     }
@@ -107,6 +114,7 @@ opIte =
       use-a = asRow;
       use-b = asRow;
       use-p = asRow;
+      correlated = true;
       rule = chosenWidths;
       plain = λ wt ws p ns. cond (eqb (third ns) 1) (first ns) (second ns);
     }

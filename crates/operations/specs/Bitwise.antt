@@ -1,6 +1,7 @@
 -- Kinds 0 to 4: copy and the bitwise kinds (01, "Records" and "Points and plain runs"). Each kind is described here and nowhere else.
 --   opCopy opNot opAnd opOr opXor
 -- In a plain number, w is the width of the first operand, first ws, and a, b are the operands' numbers.
+use mathlib.Core.Bool.{true, false}
 use Prim.Native.Nat.{_-_, _^_}
 use lib.Bits.{bitAnd, bitOr, bitXor}
 use Rattle.operations.specs.Kind.{bytes, asRow, unused, Kind, first, second, sameWidth, sameWidths}
@@ -14,6 +15,7 @@ opCopy =
       use-a = asRow;
       use-b = unused;
       use-p = unused;
+      correlated = false;
       rule = sameWidth;
       plain = λ wt ws p ns. first ns;
     }
@@ -27,6 +29,7 @@ opNot =
       use-a = asRow;
       use-b = unused;
       use-p = unused;
+      correlated = false;
       rule = sameWidth;
       plain = λ wt ws p ns. 2 ^ first ws - 1 - first ns;
     }
@@ -40,6 +43,7 @@ opAnd =
       use-a = asRow;
       use-b = asRow;
       use-p = unused;
+      correlated = true;
       rule = sameWidths;
       plain = λ wt ws p ns. bitAnd (first ns) (second ns);
     }
@@ -52,6 +56,7 @@ opOr =
       use-a = asRow;
       use-b = asRow;
       use-p = unused;
+      correlated = true;
       rule = sameWidths;
       plain = λ wt ws p ns. bitOr (first ns) (second ns);
     }
@@ -64,6 +69,7 @@ opXor =
       use-a = asRow;
       use-b = asRow;
       use-p = unused;
+      correlated = true;
       rule = sameWidths;
       plain = λ wt ws p ns. bitXor (first ns) (second ns);
     }

@@ -2,7 +2,7 @@
 --   bytes s         the bytes of a quoted word
 --   Use             what a word of a record is to an operation: a row, a number, or nothing
 --   Rule            what an operation asks of the widths;   asks r   that, as a test
---   Kind            number, text name, use of the words a, b and p, width rule, plain number
+--   Kind            number, text name, use of the words a, b and p, whether operands named twice are one number, width rule, plain number
 --   first l, second l, third l   the operands' widths or numbers, in the order of the words
 use mathlib.Core.Bool.{Bool, _&&_}
 use mathlib.Core.List.{List, [], _∷_}
@@ -23,6 +23,7 @@ pub data Use : Type 0 where
 pub data Rule : Type 0 where
   sameWidth sameWidths takenWidth joinedWidths extendedWidth comparedWidths chosenWidths : Rule
 
+-- correlated: "where the first and second operand words name one row, both operands are the same number" (02, request 2).
 -- plain: of the target's width, the operand rows' widths, the parameter and the operands' numbers, the new number of the target in a plain run.
 pub record Kind : Type 0 where
   pub number : ℕ
@@ -30,6 +31,7 @@ pub record Kind : Type 0 where
   pub use-a : Use
   pub use-b : Use
   pub use-p : Use
+  pub correlated : Bool
   pub rule : Rule
   pub plain : ℕ → List ℕ → ℕ → List ℕ → ℕ
 

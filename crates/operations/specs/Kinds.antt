@@ -45,7 +45,7 @@ unfolding kinds
 kindCount = length kinds
 
 abbrev pub opNone : Kind
-opNone = record { number = 0; name = []; use-a = unused; use-b = unused; use-p = unused; rule = sameWidth; plain = λ wt ws p ns. 0 }
+opNone = record { number = 0; name = []; use-a = unused; use-b = unused; use-p = unused; correlated = false; rule = sameWidth; plain = λ wt ws p ns. 0 }
 
 abbrev pub numbered : ℕ → List Kind → Bool
 numbered n [] = false

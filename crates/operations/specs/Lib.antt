@@ -8,6 +8,7 @@ pub mod Kinds
 pub mod Encoding
 pub mod Record
 pub mod Result
+pub mod Doubled
 pub mod Bitvector
 pub mod SmtLib
 pub mod Terms

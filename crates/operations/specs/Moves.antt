@@ -1,7 +1,7 @@
 -- Kinds 5 to 12: movement (01, "Records" and "Points and plain runs"). Each kind is described here and nowhere else.
 --   opShl opLshr opAshr opRotl opExtract opConcat opZext opSext
 -- In a plain number, w is the width of the first operand, first ws, and a, b are the operands' numbers.
-use mathlib.Core.Bool.{_&&_}
+use mathlib.Core.Bool.{true, false, _&&_}
 use Prim.Native.Nat.{_+_, _-_, _*_, _/_, _%_, _^_, min}
 use lib.Dec.{eqb}
 use Rattle.bits.specs.Bit.{isSet, number}
@@ -17,6 +17,7 @@ opShl =
       use-a = asRow;
       use-b = unused;
       use-p = asNumber;
+      correlated = false;
       rule = sameWidth;
       plain = λ wt ws p ns. first ns * 2 ^ p % 2 ^ first ws;
     }
@@ -30,6 +31,7 @@ opLshr =
       use-a = asRow;
       use-b = unused;
       use-p = asNumber;
+      correlated = false;
       rule = sameWidth;
       plain = λ wt ws p ns. first ns / 2 ^ p;
     }
@@ -43,6 +45,7 @@ opAshr =
       use-a = asRow;
       use-b = unused;
       use-p = asNumber;
+      correlated = false;
       rule = sameWidth;
       plain = λ wt ws p ns. number (first ws) (λ k. isSet (first ns) (min (k + p) (first ws - 1)));
     }
@@ -56,6 +59,7 @@ opRotl =
       use-a = asRow;
       use-b = unused;
       use-p = asNumber;
+      correlated = false;
       rule = sameWidth;
       plain = λ wt ws p ns. number (first ws) (λ j. someBelow (first ws) (λ k. eqb ((k + p) % first ws) j && isSet (first ns) k));
     }
@@ -69,6 +73,7 @@ opExtract =
       use-a = asRow;
       use-b = unused;
       use-p = asNumber;
+      correlated = false;
       rule = takenWidth;
       plain = λ wt ws p ns. first ns / 2 ^ p % 2 ^ wt;
     }
@@ -82,6 +87,7 @@ opConcat =
       use-a = asRow;
       use-b = asRow;
       use-p = unused;
+      correlated = true;
       rule = joinedWidths;
       plain = λ wt ws p ns. first ns * 2 ^ second ws + second ns;
     }
@@ -95,6 +101,7 @@ opZext =
       use-a = asRow;
       use-b = unused;
       use-p = unused;
+      correlated = false;
       rule = extendedWidth;
       plain = λ wt ws p ns. first ns;
     }
@@ -108,6 +115,7 @@ opSext =
       use-a = asRow;
       use-b = unused;
       use-p = unused;
+      correlated = false;
       rule = extendedWidth;
       plain = λ wt ws p ns. number wt (λ k. isSet (first ns) (min k (first ws - 1)));
     }

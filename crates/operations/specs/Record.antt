@@ -1,16 +1,18 @@
--- A record's words, its checks 6 to 10 and its effect, all from the kind's description (01, "Records" and "Who can cause a refusal").
+-- A record's words, its checks 6 to 10 and its effect, all from the kind's description (01, "Records" and "Who can cause a refusal"; 02, request 2).
 --   kindWord, targetWord, firstWord, secondWord, parameterWord   the five words of a record: kind, target row t, operand rows a and b, parameter p
 --   wordsOf r        the words of a record that the code holds as one value
 --   kindIn words     the record's kind
 --   used u a l, operands k a b p   of what stands for the words a, b and p that whose word the kind uses as a row, one by one
 --   rowsNamed words  the operand rows that the words a, b and p name, in that order
+--   namedTwice words its words a and b name one row, and to its kind both operands are then one number
+--   once b l         where b holds, l without its second element;   again b l   where b holds, l with its first element twice
 --   widthAt widths i the width of row i
 --   Fault, fault b n   a condition, and the number of the refusal that it causes
 --   kindUnknown, wordOutside, misused, widthsFit, targetLocked   the conditions of 6, 7, 8, 9 (that it does not hold) and 10
 --   namedFaults n    checks 6 to 8 against n rows;  recordFaults   checks 6 to 9, in order;  lockFault   check 10
 --   Effect           a target row, operand rows, and the target's new number as a function of the operands' numbers
 --   effectOf         a record's effect;  effectsOf   the list of its effects, that one alone
-use mathlib.Core.Bool.{Bool, false, not}
+use mathlib.Core.Bool.{Bool, true, false, not, _&&_}
 use mathlib.Core.List.{List, [], _∷_, _++_, map}
 use Prim.Native.Nat.{ℕ}
 use lib.Dec.{leb, ltb, eqb}
@@ -56,6 +58,21 @@ operands k a b p = used (k .use-a) a (used (k .use-b) b (used (k .use-p) p []))
 
 unfoldable pub rowsNamed : List ℕ → List ℕ
 rowsNamed words = operands (kindIn words) (firstWord words) (secondWord words) (parameterWord words)
+
+-- "where the first and second operand words name one row": it is the words that count, and not what the rows hold
+unfoldable pub namedTwice : List ℕ → Bool
+namedTwice words = kindIn words .correlated && eqb (firstWord words) (secondWord words)
+
+abbrev pub once : {A : Type 0} → Bool → List A → List A
+once false l = l
+once true [] = []
+once true (a ∷ []) = a ∷ []
+once true (a ∷ b ∷ l) = a ∷ l
+
+abbrev pub again : Bool → List ℕ → List ℕ
+again false ns = ns
+again true [] = []
+again true (n ∷ ns) = n ∷ n ∷ ns
 
 -- ---- the checks
 
@@ -108,7 +125,7 @@ recordFaults widths words = namedFaults (length widths) words ++ fault (not (wid
 unfoldable pub lockFault : List ℕ → List ℕ → List Fault
 lockFault locks words = fault (targetLocked locks words) 10 ∷ []
 
--- ---- the effect
+-- ---- the effect: a row named twice stands once among the operands, and its number is taken for both
 
 pub record Effect : Type 0 where
   pub target : ℕ
@@ -119,8 +136,8 @@ unfoldable pub effectOf : List ℕ → List ℕ → Effect
 effectOf widths words =
     record {
       target = targetWord words;
-      operands = rowsNamed words;
-      value = kindIn words .plain (widthAt widths (targetWord words)) (map (widthAt widths) (rowsNamed words)) (parameterWord words);
+      operands = once (namedTwice words) (rowsNamed words);
+      value = λ ns. kindIn words .plain (widthAt widths (targetWord words)) (map (widthAt widths) (rowsNamed words)) (parameterWord words) (again (namedTwice words) ns);
     }
 
 unfoldable pub effectsOf : List ℕ → List ℕ → List Effect

@@ -1,8 +1,9 @@
 // The kinds as code: their number, and what each uses and asks of the widths, as the kinds' descriptions say.
 // A description is a digit of two bits to each kind, kind 0 the last: a shift reads it, and no table lies in memory. There is room for 32 kinds.
+ghost use mathlib.Core.Bool.{_&&_};
 ghost use mathlib.Core.Path.{_≡_};
 ghost use Prim.Native.Nat.{_<_};
-ghost use lib.Dec.{T};
+ghost use lib.Dec.{T, eqb};
 ghost use lib.ListN.{length, getD};
 ghost use Rattle.operations.specs.Kinds.{isKind, kindOf};
 ghost use Rattle.operations.specs.Encoding.{digitOf, useCode, ruleCode};
@@ -27,6 +28,9 @@ const SECOND: u64 = 0b01_01_01_01_01_00_01_01_00_00_01_00_00_00_00_00_01_01_01_0
 
 // The same of the word p.
 const PARAMETER: u64 = 0b01_00_00_00_00_00_00_00_00_00_00_10_10_10_10_10_00_00_00_00_00;
+
+// Whether operands named twice are one number to each kind: 0 no, 1 yes.
+const CORRELATED: u64 = 0b01_01_01_01_00_00_01_01_00_00_01_00_00_00_00_00_01_01_01_00_00;
 
 // The width rule of each kind, in two digits.
 const RULES: u64 = 0b10_01_01_01_01_00_01_01_00_00_11_10_00_00_00_00_01_01_01_00_00;
@@ -71,6 +75,15 @@ pub fn parameter_use(kind: u32) -> u64
     ensures { λ r. ⌜ r ≡ useCode (kindOf kind .use-p) ⌝ }
 {
     digit(PARAMETER, kind)
+}
+
+// Whether the words a and b of a record of that kind name one row, and both operands are then one number. One comparison tells both: the bits in which
+// the words differ are a number below the digit only where it is 0 and the digit is 1.
+pub fn named_twice(kind: u32, a: u32, b: u32) -> bool
+    requires { ⌜ T (isKind kind) ⌝ }
+    ensures { λ r. ⌜ r ≡ (kindOf kind .correlated && eqb a b) ⌝ }
+{
+    ((a ^ b) as u64) < digit(CORRELATED, kind)
 }
 
 // The width rule of a kind.

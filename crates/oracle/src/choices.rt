@@ -1,4 +1,4 @@
-// The choices of covered operands, and the bits that they give (01, "Abstract result"), by plain enumeration.
+// The choices of covered operands, and the bits that they give (01, "Abstract result"; 02, request 2), by plain enumeration.
 ghost use Prim.Native.Nat.{_^_, _≤_, _<_};
 ghost use Rattle.bits.specs.Limits.{widthLimit};
 ghost use Rattle.oracle.specs.Sizes.{Sized};
@@ -7,6 +7,7 @@ use crate::numbers::power;
 use crate::numbers::word;
 use crate::plain::plain;
 use crate::shapes::Shape;
+use crate::shapes::one_number;
 
 // A row's mask and value.
 pub struct Row {
@@ -108,14 +109,44 @@ fn of_all(s: Shape, a: Row, b: Row, c: Row) -> Seen
     seen
 }
 
-// The target's row: a bit that is seen 0 and seen 1 is unknown.
-pub fn enumerated(s: Shape, a: Row, b: Row, c: Row) -> Row
+// All choices of one number for both operands, and of the condition.
+fn of_one(s: Shape, a: Row, c: Row) -> Seen
     requires { ⌜ Sized (s .wt) (s .wa) (s .wb) (s .p) ⌝ }
 {
-    let seen = of_all(s, a, b, c);
+    let n = power(s.wa);
+    let mut seen = nothing();
+    let mut x: u64 = 0;
+    while x < n {
+        if covers(s.wa, a, x) {
+            seen = both(seen, of_condition(s, x, x, c));
+        }
+        x += 1;
+    }
+    seen
+}
+
+// A bit that is seen 0 and seen 1 is unknown.
+fn row_of(seen: Seen) -> Row {
     let unknown = seen.zeros & seen.ones;
     Row {
         mask: unknown,
         value: seen.ones ^ unknown,
     }
+}
+
+// The target's row.
+pub fn enumerated(s: Shape, a: Row, b: Row, c: Row) -> Row
+    requires { ⌜ Sized (s .wt) (s .wa) (s .wb) (s .p) ⌝ }
+{
+    row_of(of_all(s, a, b, c))
+}
+
+// The same where the words a and b name one row.
+pub fn enumerated_twice(s: Shape, a: Row, c: Row) -> Row
+    requires { ⌜ Sized (s .wt) (s .wa) (s .wb) (s .p) ⌝ }
+{
+    if one_number(s.kind) {
+        return row_of(of_one(s, a, c));
+    }
+    enumerated(s, a, a, c)
 }

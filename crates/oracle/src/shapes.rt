@@ -21,6 +21,11 @@ pub fn uses_second(kind: u64) -> bool {
     }
 }
 
+// Whether both operands are one number where they are one row (02, request 2): wherever there are two, but for mul.
+pub fn one_number(kind: u64) -> bool {
+    uses_second(kind) && kind != 16
+}
+
 // Whether the kind uses a condition, row 2.
 pub fn uses_condition(kind: u64) -> bool {
     kind == 20

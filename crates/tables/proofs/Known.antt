@@ -1,32 +1,52 @@
 -- Fully known operand rows give the SMT-LIB number, at every point of an accepted run. Assumes nothing.
 use mathlib.Core.Path.{_≡_, refl, sym, ap, _∙_, subst, subst₂}
 use mathlib.Core.Bool.{not}
-use mathlib.Core.List.{List, map, Memᴰ·append-left, map-map}
+use mathlib.Core.List.{List, [], _∷_, map, Memᴰ·append-left, map-map}
 use Prim.Native.Nat.{ℕ, suc, _-_, _^_, _≤_, _<_}
 use native.Mathlib.Nat.{add-sub-of-le}
 use native.Mathlib.Omega.{arith}
 use lib.Dec.{T}
 use lib.ListN.{getD}
+use Rattle.vectors.specs.Lists.{All}
 use Rattle.vectors.specs.Row.{Row, row}
 use Rattle.vectors.proofs.Lists.{all-map, pointwise-map}
 use Rattle.vectors.proofs.BestLaws.{best-known}
 use Rattle.operations.specs.Kind.{asks, Kind}
 use Rattle.operations.specs.Kinds.{kindOf}
-use Rattle.operations.specs.Record.{kindWord, targetWord, firstWord, secondWord, parameterWord, kindIn, widthAt, rowsNamed, misused, effectOf, effectsOf}
+use Rattle.operations.specs.Record.{kindWord, targetWord, firstWord, secondWord, parameterWord, kindIn, widthAt, rowsNamed, misused, namedTwice, Effect, effectOf, effectsOf}
 use Rattle.operations.specs.Result.{Below, arity}
 use Rattle.operations.specs.Terms.{Term, narrowTerms, Served}
+use Rattle.operations.proofs.Twice.{once-all}
 use Rattle.operations.proofs.SmtTerms.{term-agrees, term-kind, term-of}
 use Rattle.checks.specs.Table.{State, rowAt, Table, startOf, recordCount, recordOf}
 use Rattle.checks.specs.Accepted.{RecordPassed, TablePassed, Accepted}
-use Rattle.tables.specs.Step.{operandRows, step, after}
+use Rattle.tables.specs.Step.{operandRows, operandNumbers, step, after}
 use Rattle.tables.specs.Run.{programOf, pointRows}
 use Rattle.tables.specs.Demand.{StateFits}
 use Rattle.tables.specs.Known.{KnownBefore, operandWidths, TermFor, smtVector, knownRow, SmtNumber, Demand2}
 use Rattle.tables.proofs.Lists.{operands-count}
-use Rattle.tables.proofs.Fits.{effect-fits, effects-fit}
+use Rattle.tables.proofs.Fits.{FitRecord, effects-fit, plain-number}
 use Rattle.tables.proofs.Steps.{operands-formed, step-targets}
 use Rattle.tables.proofs.Points.{after-fits}
 use Rattle.tables.proofs.Demand3.{start-fits, at-point}
+
+-- ---- one effect
+
+-- on fully known operand rows its value on their numbers, with an empty mask
+known-effect : (widths : List ℕ) (s : State) → StateFits widths s → (e : Effect) → FitRecord widths (e ∷ []) → All (λ i. getD (s .masks) i 0 ≡ 0) (e .operands)
+    → rowAt widths (step widths (e ∷ []) s) (e .target) ≡ row (widthAt widths (e .target)) 0 (e .value (operandNumbers (s .values) e))
+known-effect widths s S e R K =
+    let F = R .fit .0 in
+    step-targets widths s S (e ∷ []) R .0
+    ∙ best-known (widthAt widths (e .target)) (e .value) (operandRows widths s e) (operands-formed widths s S e F)
+    (all-map (λ r. r .mask ≡ 0) (rowAt widths s) (λ i z. z) (e .operands) K)
+    (subst (λ (l : List ℕ). e .value l < 2 ^ widthAt widths (e .target)) (sym values)
+    (F .value-below (operandNumbers (s .values) e)
+    (pointwise-map (λ w n. n < 2 ^ w) (widthAt widths) (λ i. getD (s .values) i 0) (λ i l. S .formed i l .value-below) (e .operands) (F .operands-in))))
+    ∙ ap (λ (l : List ℕ). row (widthAt widths (e .target)) 0 (e .value l)) values
+  where
+    values : map (λ r. r .value) (operandRows widths s e) ≡ operandNumbers (s .values) e
+    values = map-map (λ (r : Row). r .value) (rowAt widths s) (e .operands)
 
 -- ---- one record
 
@@ -75,15 +95,8 @@ module _ (t : Table) (A : TablePassed t) (s : ℕ) (h : s < recordCount t) (rows
       ≡ row wt 0 (kindIn words .plain wt ws p ns)
   unfolding effectsOf effectOf
   left-row =
-      step-targets (t .widths) rows S (effectsOf (t .widths) words) (effects-fit (t .widths) words R) .0
-      ∙ best-known wt (effectOf (t .widths) words .value) (operandRows (t .widths) rows (effectOf (t .widths) words))
-      (operands-formed (t .widths) rows S (effectOf (t .widths) words) (effect-fits (t .widths) words R))
-      (all-map (λ r. r .mask ≡ 0) (rowAt (t .widths) rows) (λ i e. e) (rowsNamed words) K)
-      (subst (λ (l : List ℕ). effectOf (t .widths) words .value l < 2 ^ wt) (sym values) (effect-fits (t .widths) words R .value-below ns below))
-      ∙ ap (λ (l : List ℕ). row wt 0 (effectOf (t .widths) words .value l)) values
-    where
-      values : map (λ r. r .value) (map (rowAt (t .widths) rows) (rowsNamed words)) ≡ ns
-      values = map-map (λ (r : Row). r .value) (rowAt (t .widths) rows) (rowsNamed words)
+      known-effect (t .widths) rows S (effectOf (t .widths) words) (effects-fit (t .widths) words R) (once-all (namedTwice words) (λ i. getD (rows .masks) i 0 ≡ 0) (rowsNamed words) K)
+      ∙ ap (row wt 0) (plain-number (t .widths) words (R .kind-known) (rows .values))
 
   -- that row is the one of each term for the record
   term-row : (m : Term) → TermFor (t .widths) words m

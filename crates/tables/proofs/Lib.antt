@@ -8,6 +8,7 @@ pub mod Demand3
 pub mod Counts
 pub mod Lists
 pub mod Known
+pub mod NamedRows
 pub mod StepLaws
 pub mod StretchLaws
 pub mod RunLaws

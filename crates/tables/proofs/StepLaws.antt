@@ -1,7 +1,7 @@
 -- A record's step as the code makes it: the rows that its words name, the kernel's result, and the one row written. Assumes nothing.
-use mathlib.Core.Path.{_≡_, refl, sym, ap, _∙_, subst, subst₂, transport}
-use mathlib.Core.Bool.{_&&_}
-use mathlib.Core.List.{List, [], _∷_, map, map-map}
+use mathlib.Core.Path.{_≡_, refl, sym, ap, ap₂, _∙_, subst, subst₂}
+use mathlib.Core.Bool.{Bool}
+use mathlib.Core.List.{List, [], map, map-map}
 use Prim.Native.Nat.{ℕ, _≤_, _<_}
 use native.Mathlib.Omega.{arith}
 use lib.Dec.{T, eqb, eqb→eq}
@@ -11,47 +11,19 @@ use Rattle.vectors.specs.Lists.{All}
 use Rattle.vectors.specs.Row.{Row, row, WellFormed}
 use Rattle.vectors.specs.Best.{best}
 use Rattle.vectors.proofs.Lists.{all-map}
-use Rattle.operations.specs.Kind.{asks, Use, asRow, asNumber, unused, Rule}
+use Rattle.operations.specs.Kind.{asks, Use}
 use Rattle.operations.specs.Kinds.{isKind, kindOf}
 use Rattle.operations.specs.declared.Record.{Record}
-use Rattle.operations.specs.Record.{wordsOf, widthAt, used, operands, rowsNamed, effectOf, effectsOf}
-use Rattle.operations.specs.Result.{widthsOf, resultOf, Ready}
-use Rattle.operations.proofs.Sound.{isRow, row-is, suits, first-is-row, rule-suits, condition-chosen}
+use Rattle.operations.specs.Record.{wordsOf, widthAt, used, operands, rowsNamed, namedTwice, again, effectOf, effectsOf}
+use Rattle.operations.specs.Result.{widthsOf, resultOnce, Ready}
+use Rattle.operations.proofs.Sound.{isRow, first-is-row, second-is-row}
+use Rattle.operations.proofs.Twice.{once-map}
 use Rattle.bits.specs.Limits.{widthLimit}
 use Rattle.checks.specs.Table.{State, rowAt}
 use Rattle.tables.specs.Step.{result, step}
 use Rattle.tables.specs.Encoding.{usedRow, StepReady}
 use Rattle.tables.proofs.Lists.{operands-count}
-
--- ---- a condition row is one bit wide (refusal 9)
-
-one-bit : (n : ℕ) → T (isKind n) → T (isRow (kindOf n .use-p)) → (widths : List ℕ) (wt a b p : ℕ)
-    → T (asks (kindOf n .rule) wt (map (widthAt widths) (operands (kindOf n) a b p)) p) → widthAt widths p ≡ 1
-one-bit n h u widths wt a b p t =
-    let r = condition-chosen n h u in
-    let s : T (isRow (kindOf n .use-b) && isRow (kindOf n .use-p)) = subst (λ (q : Rule). T (suits q (kindOf n .use-b) (kindOf n .use-p))) r (rule-suits n h) in
-    let eb = row-is (kindOf n .use-b) (T-left (isRow (kindOf n .use-b)) (isRow (kindOf n .use-p)) s) in
-    let f : T (eqb wt (widthAt widths a) && eqb wt (widthAt widths b) && eqb (widthAt widths p) 1) =
-    transport (λ ι. T (asks (r ι) wt (map (widthAt widths) (used (first-is-row n h ι) a (used (eb ι) b (used (row-is (kindOf n .use-p) u ι) p [])))) p)) t in
-    eqb→eq (widthAt widths p) 1 (T-right (eqb wt (widthAt widths a) && eqb wt (widthAt widths b)) (eqb (widthAt widths p) 1) f)
-
--- ---- the rows that the words name
-
-used-in : (u : Use) (n word : ℕ) (rest : List ℕ) → 1 ≤ n → All (λ i. i < n) (used u word rest) → (usedRow u word < n) × All (λ i. i < n) rest
-used-in asRow n word rest h e = e
-used-in asNumber n word rest h e = (h, e)
-used-in unused n word rest h e = (h, e)
-
-used-map : (f : ℕ → Row) (u : Use) (word : ℕ) (r : Row) (rows : List Row) (rest : List ℕ)
-    → (T (isRow u) → r ≡ f word) → rows ≡ map f rest → used u r rows ≡ map f (used u word rest)
-used-map f asRow word r rows rest e g = let p = e tt in λ ι. p ι ∷ g ι
-used-map f asNumber word r rows rest e g = g
-used-map f unused word r rows rest e g = g
-
-used-same : (u : Use) (word : ℕ) → T (isRow u) → usedRow u word ≡ word
-used-same asRow word t = refl
-used-same asNumber word t = absurd t
-used-same unused word t = absurd t
+use Rattle.tables.proofs.NamedRows.{one-bit, used-in, used-map, used-same}
 
 -- what the code reads for a record: the rows t, a, b and p (0 where b or p is no row), and the widths of the first three
 pub record Loaded (widths : List ℕ) (r : Record) (i j k l wt wa wb : ℕ) : Type 0 where
@@ -146,14 +118,26 @@ module _ (widths : List ℕ) (s : State) (r : Record) (R : StepReady widths s (w
   pub first-wide : widthAt widths (r .a) ≤ widthLimit
   first-wide = R .wide (r .a) first-in .1
 
-  result-is : resultOf (kindOf (r .kind)) (widthAt widths (r .t)) (r .p) given ≡ result widths s (effectOf widths (wordsOf r))
-  unfolding resultOf effectOf
+  abbrev named : Bool
+  named = namedTwice (wordsOf r)
+
+  result-is : resultOnce named (kindOf (r .kind)) (widthAt widths (r .t)) (r .p) given ≡ result widths s (effectOf widths (wordsOf r))
+  unfolding resultOnce effectOf
   result-is =
-      ap (resultOf (kindOf (r .kind)) (widthAt widths (r .t)) (r .p)) rows-are
-      ∙ ap (λ (l : List ℕ). best (widthAt widths (r .t)) (kindOf (r .kind) .plain (widthAt widths (r .t)) l (r .p)) (map (rowAt widths s) (rowsNamed (wordsOf r)))) widths-are
+      ap (resultOnce named (kindOf (r .kind)) (widthAt widths (r .t)) (r .p)) rows-are
+      ∙ ap₂ (λ (l : List ℕ) (rows : List Row). best (widthAt widths (r .t)) (λ ns. kindOf (r .kind) .plain (widthAt widths (r .t)) l (r .p) (again named ns)) rows)
+      widths-are (sym (once-map named (rowAt widths s) (rowsNamed (wordsOf r))))
+
+  -- where the words a and b name one row, so do those that the code reads
+  one-row : T named → r .a ≡ ib
+  unfolding namedTwice
+  one-row t =
+      let k = kindOf (r .kind) in
+      let u = second-is-row (r .kind) kind-in (T-left (k .correlated) (eqb (r .a) (r .b)) t) in
+      eqb→eq (r .a) (r .b) (T-right (k .correlated) (eqb (r .a) (r .b)) t) ∙ ap (λ (v : Use). usedRow v (r .b)) (sym u)
 
   -- the two planes written are the step
-  pub step-is : (m v : ℕ) → row (widthAt widths (r .t)) m v ≡ resultOf (kindOf (r .kind)) (widthAt widths (r .t)) (r .p) given
+  pub step-is : (m v : ℕ) → row (widthAt widths (r .t)) m v ≡ resultOnce named (kindOf (r .kind)) (widthAt widths (r .t)) (r .p) given
       → _≡_ {A = State} (record { masks = set (s .masks) (r .t) m; values = set (s .values) (r .t) v }) (step widths (effectsOf widths (wordsOf r)) s)
   unfolding step effectsOf effectOf
   step-is m v e =
@@ -183,11 +167,17 @@ module _ (widths : List ℕ) (s : State) (r : Record) (R : StepReady widths s (w
     abbrev handed : List Row
     handed = operands (kindOf (r .kind)) (row wa (mask j) (value j)) (row wb (mask k) (value k)) (row 1 (mask l) (value l))
 
+    first-given : row wa (mask j) (value j) ≡ rowAt widths s (r .a)
+    first-given = λ ι. row (first-width ι) (mask (H .first ι)) (value (H .first ι))
+
+    second-given : row wb (mask k) (value k) ≡ rowAt widths s ib
+    second-given = let w = H .second-width ∙ ap (widthAt widths) (H .second) in λ ι. row (w ι) (mask (H .second ι)) (value (H .second ι))
+
     handed-given : handed ≡ given
-    handed-given =
-        let second-width = H .second-width ∙ ap (widthAt widths) (H .second) in
-        λ ι. operands (kindOf (r .kind)) (row (first-width ι) (mask (H .first ι)) (value (H .first ι))) (row (second-width ι) (mask (H .second ι)) (value (H .second ι)))
-        (row 1 (mask (H .condition ι)) (value (H .condition ι)))
+    handed-given = λ ι. operands (kindOf (r .kind)) (first-given ι) (second-given ι) (row 1 (mask (H .condition ι)) (value (H .condition ι)))
+
+    pub code-same : T named → row wa (mask j) (value j) ≡ row wb (mask k) (value k)
+    code-same t = first-given ∙ ap (rowAt widths s) (one-row t) ∙ sym second-given
 
     pub code-ready : T (isKind (r .kind)) × (wt ≤ widthLimit) × (wa ≤ widthLimit) × Ready (kindOf (r .kind)) wt (r .p) handed
     code-ready = (
@@ -197,8 +187,8 @@ module _ (widths : List ℕ) (s : State) (r : Record) (R : StepReady widths s (w
       subst₂ (λ (x : ℕ) (rows : List Row). Ready (kindOf (r .kind)) x (r .p) rows) (sym target-width) (sym handed-given) ready,
     )
 
-    pub code-step : (m v : ℕ) → row wt m v ≡ resultOf (kindOf (r .kind)) wt (r .p) handed
+    pub code-step : (m v : ℕ) → row wt m v ≡ resultOnce named (kindOf (r .kind)) wt (r .p) handed
         → _≡_ {A = State} (record { masks = set (s .masks) i m; values = set (s .values) i v }) (step widths (effectsOf widths (wordsOf r)) s)
     code-step m v e =
         (λ ι. record { masks = set (s .masks) (H .target ι) m; values = set (s .values) (H .target ι) v })
-        ∙ step-is m v ((λ ι. row (sym target-width ι) m v) ∙ e ∙ (λ ι. resultOf (kindOf (r .kind)) (target-width ι) (r .p) (handed-given ι)))
+        ∙ step-is m v ((λ ι. row (sym target-width ι) m v) ∙ e ∙ (λ ι. resultOnce named (kindOf (r .kind)) (target-width ι) (r .p) (handed-given ι)))

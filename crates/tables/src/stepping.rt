@@ -62,8 +62,8 @@ fn step(width: &[u8], mask: &mut [u32], value: &mut [u32], r: Record)
     let wt = wide(width[i]);
     let wa = wide(width[j]);
     let wb = wide(width[k]);
-    let planes = kernels::apply(
-        r.kind,
+    let planes = results::of_record(
+        r,
         wt,
         wa,
         wb,
@@ -73,7 +73,6 @@ fn step(width: &[u8], mask: &mut [u32], value: &mut [u32], r: Record)
         value[k],
         mask[l],
         value[l],
-        r.p,
     );
     mask[i] = planes.mask;
     value[i] = planes.value;

@@ -1,4 +1,4 @@
-// The unstarred examples that need no text (01, "Worked examples").
+// The unstarred examples that need no text (01, "Worked examples"; 02, request 2).
 use crate::Rows;
 use crate::answers;
 use crate::counting::Tally;
@@ -66,10 +66,24 @@ fn parameters_over() -> Tally {
     tally
 }
 
-// xor of a row X with itself = X; sub of it likewise, since both operands are chosen independently.
+// xor of a row X with itself = 0, and sub likewise: both operands are one number (02, request 2).
 fn with_itself(kind: u64) -> Tally {
-    let x = row(1, 0);
-    gives(kind, 1, 0, x, row(0, 0), x, 0)
+    gives(kind, 1, 0, row(1, 0), row(1, 0), row(0, 0), 0)
+}
+
+// ite of X and 1, and of 0 and X, with the row X also as its condition = X: the condition is chosen independently. As one number with a row it would give 1,
+// and 0.
+fn with_its_condition(a: Row, b: Row, condition: u64) -> Tally {
+    let s = Shape {
+        kind: 20,
+        wt: 1,
+        wa: 1,
+        wb: 1,
+        p: condition,
+    };
+    let before = table(a, b, row(0, 0), row(0, 0));
+    let after = table(a, b, row(0, 0), row(1, 0));
+    one(makes(s, 1, before, after, 0))
 }
 
 // 256 rows accepted.
@@ -88,5 +102,7 @@ pub fn examples() -> Tally {
     let mut tally = joined(rotl_by_four(), ashr_by_most());
     tally = joined(tally, parameters_over());
     tally = joined(tally, joined(with_itself(4), with_itself(14)));
+    tally = joined(tally, with_its_condition(row(1, 0), row(0, 1), 0));
+    tally = joined(tally, with_its_condition(row(0, 0), row(1, 0), 1));
     joined(tally, most_rows())
 }

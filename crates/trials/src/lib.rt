@@ -4,6 +4,7 @@ ghost use lib.ListN.{length};
 ghost use Rattle.oracle.specs.Sizes.{Sized};
 use oracle::choices::Row;
 use oracle::choices::enumerated;
+use oracle::choices::enumerated_twice;
 use oracle::numbers::byte;
 use oracle::numbers::word;
 use oracle::shapes::Shape;
@@ -93,20 +94,30 @@ fn makes(s: Shape, second: u32, before: Rows, after: Rows, number: u32) -> bool 
     same(&value, &end)
 }
 
-// Whether run and the enumeration agree on the target, and the other rows stay. At the start bit 0 of the target is known where the result's is unknown, and
+// Whether run makes this result at the target, and the other rows stay. At the start bit 0 of the target is known where the result's is unknown, and
 // unknown where the result's is known.
-pub fn agrees(s: Shape, a: Row, b: Row, c: Row) -> bool
-    requires { ⌜ Sized (s .wt) (s .wa) (s .wb) (s .p) ⌝ }
-{
-    let result = enumerated(s, a, b, c);
+fn leaves(s: Shape, second: u32, a: Row, b: Row, c: Row, result: Row) -> bool {
     let start = Row {
         mask: 1 - result.mask % 2,
         value: 0,
     };
-    let before = table(a, b, c, start);
-    let after = table(a, b, c, result);
+    makes(s, second, table(a, b, c, start), table(a, b, c, result), 0)
+}
+
+// Whether run and the enumeration agree where the operand words name two rows.
+pub fn agrees(s: Shape, a: Row, b: Row, c: Row) -> bool
+    requires { ⌜ Sized (s .wt) (s .wa) (s .wb) (s .p) ⌝ }
+{
+    let result = enumerated(s, a, b, c);
     if uses_second(s.kind) {
-        return makes(s, 1, before, after, 0);
+        return leaves(s, 1, a, b, c, result);
     }
-    makes(s, 0, before, after, 0)
+    leaves(s, 0, a, b, c, result)
+}
+
+// Whether they agree where both operand words name row 0. The row that they could name has the same vector.
+pub fn agrees_twice(s: Shape, a: Row, c: Row) -> bool
+    requires { ⌜ Sized (s .wt) (s .wa) (s .wb) (s .p) ⌝ }
+{
+    leaves(s, 0, a, a, c, enumerated_twice(s, a, c))
 }

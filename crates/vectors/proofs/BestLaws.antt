@@ -12,8 +12,8 @@ use Rattle.vectors.specs.Choice.{Chosen}
 use Rattle.vectors.specs.Best.{best, Exact}
 use Rattle.vectors.specs.Hull.{Hull, Results}
 use Rattle.vectors.proofs.Choices.{some-chosen, chosen-inside}
-use Rattle.vectors.proofs.Hulls.{hull-covers, hull-all, hull-least, hull-mono}
-use Rattle.vectors.proofs.Bests.{ByBits, best-by-bits, best-hull, some-result, best-from-bits}
+use Rattle.vectors.proofs.Hulls.{hull-covers, hull-all, hull-least, hull-mono, hull-row, hull-iff}
+use Rattle.vectors.proofs.Bests.{ByBits, best-by-bits, best-hull, best-of-hull, some-result, best-from-bits}
 
 module _ (w : ℕ) (f : List ℕ → ℕ) (rows : List Row) where
   result : (ns : List ℕ) → Chosen rows ns → Results f rows (f ns)
@@ -76,6 +76,13 @@ best-constant w f rows n F h e =
       unknown = λ k l z. absurd (let y = bit-of-zero k in omega arith);
       known = λ k l z ns c. ap (λ (x : ℕ). bit x k) (e ns c);
     }))
+
+-- where the results are what a row covers, the best result is that row
+pub best-is-row : (w : ℕ) (f : List ℕ → ℕ) (rows : List Row) (r : Row) → WellFormed r → r .width ≡ w → All WellFormed rows
+    → ((ns : List ℕ) → Chosen rows ns → Covers r (f ns)) → ((n : ℕ) → Covers r n → Results f rows n) → best w f rows ≡ r
+best-is-row w f rows r F e W there back =
+    sym (best-of-hull w f rows r W
+    (hull-iff w (Covers r) (Results f rows) r back (λ n s. subst (Covers r) (s .gives) (there (s .numbers) (s .chosen))) (subst (λ (x : ℕ). Hull x (Covers r) r) e (hull-row r F))))
 
 -- ---- fully known rows: the plain number with an empty mask
 

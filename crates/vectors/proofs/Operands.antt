@@ -3,6 +3,7 @@
 --   formed-at     each row is well formed;  chosen-at   each covers the number chosen for it
 --   choose-at     a number that one row covers is part of a choice
 --   below-chosen  each number chosen is below 2 to the power of its row's width
+--   cons-chosen, one-chosen   what a choice from one row and more, and from one row alone, consists of
 use mathlib.Core.Path.{_≡_, refl, sym}
 use mathlib.Core.List.{List, [], _∷_, map}
 use Prim.Native.Nat.{ℕ, zero, suc, _^_, _<_}
@@ -42,3 +43,12 @@ below-chosen [] [] c = tt
 below-chosen [] (n ∷ ns) c = absurd c
 below-chosen (r ∷ rs) [] c = absurd c
 below-chosen (r ∷ rs) (n ∷ ns) c = (c .0 .below, below-chosen rs ns (c .1))
+
+pub cons-chosen : (r : Row) (rest : List Row) (P : List ℕ → Type 0) → ((n : ℕ) (ms : List ℕ) → Covers r n → Chosen rest ms → P (n ∷ ms)) → (ns : List ℕ) → Chosen (r ∷ rest) ns → P ns
+cons-chosen r rest P h [] c = absurd c
+cons-chosen r rest P h (n ∷ ms) c = h n ms (c .0) (c .1)
+
+pub one-chosen : (r : Row) (P : List ℕ → Type 0) → ((n : ℕ) → Covers r n → P (n ∷ [])) → (ns : List ℕ) → Chosen (r ∷ []) ns → P ns
+one-chosen r P h [] c = absurd c
+one-chosen r P h (n ∷ []) c = h n (c .0)
+one-chosen r P h (n ∷ m ∷ ms) c = absurd (c .1)

@@ -11,7 +11,8 @@ use Rattle.bits.specs.Below.{someBelow, allBelow}
 use Rattle.vectors.specs.Lists.{Pointwise}
 use Rattle.vectors.specs.Row.{Row, Covers}
 
--- "Operands are chosen independently, also where two operand words name the same row."
+-- "Operands are chosen independently": one number for each row of the list. A row that a record names twice stands once in the list where it gives one
+-- number for both operands (02, request 2; `effectOf` of operations/specs/Record), and twice where it gives two.
 abbrev pub Chosen : List Row → List ℕ → Type 0
 Chosen rows ns = Pointwise Covers rows ns
 

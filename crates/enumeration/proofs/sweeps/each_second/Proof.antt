@@ -5,10 +5,10 @@ use Rattle.enumeration.proofs.sweeps.each_second.Statement.{statement}
 use Rattle.enumeration.proofs.sweeps.each_second.Tie as tie
 
 abbrev Inv-loop : tie.InvT-loop
-Inv-loop s a end tally₀ n₀ tally n = n ≤ end
+Inv-loop s twice a end tally₀ n₀ tally n = n ≤ end
 
 abbrev μ-loop : tie.MeasureT-loop
-μ-loop s a end tally₀ n₀ tally n = end - n
+μ-loop s twice a end tally₀ n₀ tally n = end - n
 
 pub each-second-spec : {M : Type 1} → statement M
 each-second-spec =

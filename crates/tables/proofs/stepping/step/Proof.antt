@@ -2,7 +2,7 @@
 use native.Mathlib.Omega.{arith}
 use Rattle.checks.specs.Table.{State}
 use Rattle.tables.specs.Model.{held}
-use Rattle.tables.proofs.StepLaws.{Loaded, Present, first-in, second-in, present, code-ready, code-step}
+use Rattle.tables.proofs.StepLaws.{Loaded, Present, first-in, second-in, present, code-same, code-ready, code-step}
 use borrow.Author.Needs.{needs}
 use Rattle.tables.proofs.stepping.step.Statement.{statement}
 use Rattle.tables.proofs.stepping.step.Tie as tie
@@ -57,17 +57,19 @@ in-planes : (c : tie.After-wide3) →
     Present (s .args .width .now) (lent s) (l .before .before .index2 .result) (l .before .second-row .result) (l .condition-row .result)
 in-planes c = let s = start (rows c) in present (s .args .width .now) (lent s) (s .args .r) (s .pre) (loaded c)
 
-apply-requires : tie.Need-apply-requires
-apply-requires c κs =
+of-record-requires : tie.Need-of-record-requires
+of-record-requires c κs =
     let w = c .before .before .before .before .before .before in
-    let s = start (rows w) in
-    code-ready (s .args .width .now) (lent s) (s .args .r) (s .pre) (loaded w)
+    let s = start (rows w) in (
+      code-ready (s .args .width .now) (lent s) (s .args .r) (s .pre) (loaded w),
+      code-same (s .args .width .now) (lent s) (s .args .r) (s .pre) (loaded w),
+    )
 
 returns : tie.Need-returns
 returns c =
     let w = c .before .before .before .before .before .before .before in
     let s = start (rows w) in
-    code-step (s .args .width .now) (lent s) (s .args .r) (s .pre) (loaded w) (c .apply .result .mask) (c .apply .result .value) (c .apply .ensures)
+    code-step (s .args .width .now) (lent s) (s .args .r) (s .pre) (loaded w) (c .of-record .result .mask) (c .of-record .result .value) (c .of-record .ensures)
 
 pub step-spec : {M : Type 1} → statement M
 step-spec =
@@ -95,7 +97,7 @@ step-spec =
     (λ c. let p = in-planes (c .before .before .before .before .before) in omega arith)
     (λ c. let p = in-planes (c .before .before .before .before .before) in omega arith)
     (λ c. let p = in-planes (c .before .before .before .before .before .before) in omega arith)
-    apply-requires
+    of-record-requires
     (λ c. search needs)
     (λ c. search needs)
     (λ c. search needs)

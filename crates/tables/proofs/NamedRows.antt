@@ -1,0 +1,44 @@
+-- The rows that a record's words name, as the code reads them: row 0 where a word names none. Assumes nothing.
+use mathlib.Core.Path.{_≡_, refl, subst, transport}
+use mathlib.Core.Bool.{_&&_}
+use mathlib.Core.List.{List, [], _∷_, map}
+use Prim.Native.Nat.{ℕ, _≤_, _<_}
+use lib.Dec.{T, eqb, eqb→eq}
+use Rattle.bits.proofs.Bools.{T-left, T-right}
+use Rattle.vectors.specs.Lists.{All}
+use Rattle.vectors.specs.Row.{Row}
+use Rattle.operations.specs.Kind.{asks, Use, asRow, asNumber, unused, Rule}
+use Rattle.operations.specs.Kinds.{isKind, kindOf}
+use Rattle.operations.specs.Record.{widthAt, used, operands}
+use Rattle.operations.proofs.Sound.{isRow, row-is, suits, first-is-row, rule-suits, condition-chosen}
+use Rattle.tables.specs.Encoding.{usedRow}
+
+-- ---- a condition row is one bit wide (refusal 9)
+
+pub one-bit : (n : ℕ) → T (isKind n) → T (isRow (kindOf n .use-p)) → (widths : List ℕ) (wt a b p : ℕ)
+    → T (asks (kindOf n .rule) wt (map (widthAt widths) (operands (kindOf n) a b p)) p) → widthAt widths p ≡ 1
+one-bit n h u widths wt a b p t =
+    let r = condition-chosen n h u in
+    let s : T (isRow (kindOf n .use-b) && isRow (kindOf n .use-p)) = subst (λ (q : Rule). T (suits q (kindOf n .use-b) (kindOf n .use-p))) r (rule-suits n h) in
+    let eb = row-is (kindOf n .use-b) (T-left (isRow (kindOf n .use-b)) (isRow (kindOf n .use-p)) s) in
+    let f : T (eqb wt (widthAt widths a) && eqb wt (widthAt widths b) && eqb (widthAt widths p) 1) =
+    transport (λ ι. T (asks (r ι) wt (map (widthAt widths) (used (first-is-row n h ι) a (used (eb ι) b (used (row-is (kindOf n .use-p) u ι) p [])))) p)) t in
+    eqb→eq (widthAt widths p) 1 (T-right (eqb wt (widthAt widths a) && eqb wt (widthAt widths b)) (eqb (widthAt widths p) 1) f)
+
+-- ---- the rows that the words name
+
+pub used-in : (u : Use) (n word : ℕ) (rest : List ℕ) → 1 ≤ n → All (λ i. i < n) (used u word rest) → (usedRow u word < n) × All (λ i. i < n) rest
+used-in asRow n word rest h e = e
+used-in asNumber n word rest h e = (h, e)
+used-in unused n word rest h e = (h, e)
+
+pub used-map : (f : ℕ → Row) (u : Use) (word : ℕ) (r : Row) (rows : List Row) (rest : List ℕ)
+    → (T (isRow u) → r ≡ f word) → rows ≡ map f rest → used u r rows ≡ map f (used u word rest)
+used-map f asRow word r rows rest e g = let p = e tt in λ ι. p ι ∷ g ι
+used-map f asNumber word r rows rest e g = g
+used-map f unused word r rows rest e g = g
+
+pub used-same : (u : Use) (word : ℕ) → T (isRow u) → usedRow u word ≡ word
+used-same asRow word t = refl
+used-same asNumber word t = absurd t
+used-same unused word t = absurd t
