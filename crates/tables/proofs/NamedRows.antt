@@ -1,17 +1,33 @@
--- The rows that a record's words name, as the code reads them: row 0 where a word names none. Assumes nothing.
-use mathlib.Core.Path.{_≡_, refl, subst, transport}
+-- A record's result over the rows that its words name, and these rows as the code reads them: row 0 where a word names none. Assumes nothing.
+use mathlib.Core.Path.{_≡_, refl, sym, ap₂, subst, transport}
 use mathlib.Core.Bool.{_&&_}
-use mathlib.Core.List.{List, [], _∷_, map}
+use mathlib.Core.List.{List, [], _∷_, map, map-map}
 use Prim.Native.Nat.{ℕ, _≤_, _<_}
 use lib.Dec.{T, eqb, eqb→eq}
 use Rattle.bits.proofs.Bools.{T-left, T-right}
 use Rattle.vectors.specs.Lists.{All}
 use Rattle.vectors.specs.Row.{Row}
+use Rattle.vectors.specs.Best.{best}
 use Rattle.operations.specs.Kind.{asks, Use, asRow, asNumber, unused, Rule}
 use Rattle.operations.specs.Kinds.{isKind, kindOf}
-use Rattle.operations.specs.Record.{widthAt, used, operands}
+use Rattle.operations.specs.Record.{kindIn, targetWord, parameterWord, widthAt, used, operands, rowsNamed, namedTwice, again, effectOf}
+use Rattle.operations.specs.Result.{resultOnce}
 use Rattle.operations.proofs.Sound.{isRow, row-is, suits, first-is-row, rule-suits, condition-chosen}
+use Rattle.operations.proofs.Twice.{once-map}
+use Rattle.checks.specs.Table.{State, rowAt}
+use Rattle.tables.specs.Step.{result}
 use Rattle.tables.specs.Encoding.{usedRow}
+
+-- ---- the result
+
+-- it is its kind's over the rows that the words name, of which one named twice gives one number
+pub record-result : (widths words : List ℕ) (s : State)
+    → result widths s (effectOf widths words)
+    ≡ resultOnce (namedTwice words) (kindIn words) (widthAt widths (targetWord words)) (parameterWord words) (map (rowAt widths s) (rowsNamed words))
+unfolding effectOf resultOnce
+record-result widths words s =
+    ap₂ (λ (ws : List ℕ) (rows : List Row). best (widthAt widths (targetWord words)) (λ ns. kindIn words .plain (widthAt widths (targetWord words)) ws (parameterWord words) (again (namedTwice words) ns)) rows)
+    (sym (map-map (λ (r : Row). r .width) (rowAt widths s) (rowsNamed words))) (once-map (namedTwice words) (rowAt widths s) (rowsNamed words))
 
 -- ---- a condition row is one bit wide (refusal 9)
 

@@ -1,5 +1,5 @@
 -- A record's step as the code makes it: the rows that its words name, the kernel's result, and the one row written. Assumes nothing.
-use mathlib.Core.Path.{_≡_, refl, sym, ap, ap₂, _∙_, subst, subst₂}
+use mathlib.Core.Path.{_≡_, refl, sym, ap, _∙_, subst, subst₂}
 use mathlib.Core.Bool.{Bool}
 use mathlib.Core.List.{List, [], map, map-map}
 use Prim.Native.Nat.{ℕ, _≤_, _<_}
@@ -9,21 +9,19 @@ use lib.ListN.{length, getD, set}
 use Rattle.bits.proofs.Bools.{T-left, T-right}
 use Rattle.vectors.specs.Lists.{All}
 use Rattle.vectors.specs.Row.{Row, row, WellFormed}
-use Rattle.vectors.specs.Best.{best}
 use Rattle.vectors.proofs.Lists.{all-map}
 use Rattle.operations.specs.Kind.{asks, Use}
 use Rattle.operations.specs.Kinds.{isKind, kindOf}
 use Rattle.operations.specs.declared.Record.{Record}
-use Rattle.operations.specs.Record.{wordsOf, widthAt, used, operands, rowsNamed, namedTwice, again, effectOf, effectsOf}
+use Rattle.operations.specs.Record.{wordsOf, widthAt, used, operands, rowsNamed, namedTwice, effectOf, effectsOf}
 use Rattle.operations.specs.Result.{widthsOf, resultOnce, Ready}
 use Rattle.operations.proofs.Sound.{isRow, first-is-row, second-is-row}
-use Rattle.operations.proofs.Twice.{once-map}
 use Rattle.bits.specs.Limits.{widthLimit}
 use Rattle.checks.specs.Table.{State, rowAt}
 use Rattle.tables.specs.Step.{result, step}
 use Rattle.tables.specs.Encoding.{usedRow, StepReady}
 use Rattle.tables.proofs.Lists.{operands-count}
-use Rattle.tables.proofs.NamedRows.{one-bit, used-in, used-map, used-same}
+use Rattle.tables.proofs.NamedRows.{record-result, one-bit, used-in, used-map, used-same}
 
 -- what the code reads for a record: the rows t, a, b and p (0 where b or p is no row), and the widths of the first three
 pub record Loaded (widths : List ℕ) (r : Record) (i j k l wt wa wb : ℕ) : Type 0 where
@@ -122,11 +120,7 @@ module _ (widths : List ℕ) (s : State) (r : Record) (R : StepReady widths s (w
   named = namedTwice (wordsOf r)
 
   result-is : resultOnce named (kindOf (r .kind)) (widthAt widths (r .t)) (r .p) given ≡ result widths s (effectOf widths (wordsOf r))
-  unfolding resultOnce effectOf
-  result-is =
-      ap (resultOnce named (kindOf (r .kind)) (widthAt widths (r .t)) (r .p)) rows-are
-      ∙ ap₂ (λ (l : List ℕ) (rows : List Row). best (widthAt widths (r .t)) (λ ns. kindOf (r .kind) .plain (widthAt widths (r .t)) l (r .p) (again named ns)) rows)
-      widths-are (sym (once-map named (rowAt widths s) (rowsNamed (wordsOf r))))
+  result-is = ap (resultOnce named (kindOf (r .kind)) (widthAt widths (r .t)) (r .p)) rows-are ∙ sym (record-result widths (wordsOf r) s)
 
   -- where the words a and b name one row, so do those that the code reads
   one-row : T named → r .a ≡ ib
