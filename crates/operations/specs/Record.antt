@@ -63,6 +63,7 @@ rowsNamed words = operands (kindIn words) (firstWord words) (secondWord words) (
 unfoldable pub namedTwice : List ℕ → Bool
 namedTwice words = kindIn words .correlated && eqb (firstWord words) (secondWord words)
 
+-- of a row named twice: the row once, for the operands, and its number again, for the plain function
 abbrev pub once : {A : Type 0} → Bool → List A → List A
 once false l = l
 once true [] = []

@@ -78,7 +78,7 @@ pub fn parameter_use(kind: u32) -> u64
 }
 
 // Whether the words a and b of a record of that kind name one row, and both operands are then one number. One comparison tells both: the bits in which
-// the words differ are a number below the digit only where it is 0 and the digit is 1.
+// the words differ, taken as a number, are below the digit only where there are none and the digit is 1.
 pub fn named_twice(kind: u32, a: u32, b: u32) -> bool
     requires { ⌜ T (isKind kind) ⌝ }
     ensures { λ r. ⌜ r ≡ (kindOf kind .correlated && eqb a b) ⌝ }

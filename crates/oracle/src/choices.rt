@@ -93,24 +93,19 @@ fn of_second(s: Shape, x: u64, b: Row, c: Row) -> Seen
     seen
 }
 
-// All choices of the operands and the condition.
-fn of_all(s: Shape, a: Row, b: Row, c: Row) -> Seen
+// The same, or where `one` holds of one number for both operands.
+fn of_rest(s: Shape, one: bool, x: u64, b: Row, c: Row) -> Seen
     requires { ⌜ Sized (s .wt) (s .wa) (s .wb) (s .p) ⌝ }
+    requires { ⌜ x < 2 ^ (s .wa) ⌝ }
 {
-    let n = power(s.wa);
-    let mut seen = nothing();
-    let mut x: u64 = 0;
-    while x < n {
-        if covers(s.wa, a, x) {
-            seen = both(seen, of_second(s, x, b, c));
-        }
-        x += 1;
+    if one {
+        return of_condition(s, x, x, c);
     }
-    seen
+    of_second(s, x, b, c)
 }
 
-// All choices of one number for both operands, and of the condition.
-fn of_one(s: Shape, a: Row, c: Row) -> Seen
+// All choices of the operands and the condition.
+fn of_all(s: Shape, one: bool, a: Row, b: Row, c: Row) -> Seen
     requires { ⌜ Sized (s .wt) (s .wa) (s .wb) (s .p) ⌝ }
 {
     let n = power(s.wa);
@@ -118,7 +113,7 @@ fn of_one(s: Shape, a: Row, c: Row) -> Seen
     let mut x: u64 = 0;
     while x < n {
         if covers(s.wa, a, x) {
-            seen = both(seen, of_condition(s, x, x, c));
+            seen = both(seen, of_rest(s, one, x, b, c));
         }
         x += 1;
     }
@@ -138,15 +133,12 @@ fn row_of(seen: Seen) -> Row {
 pub fn enumerated(s: Shape, a: Row, b: Row, c: Row) -> Row
     requires { ⌜ Sized (s .wt) (s .wa) (s .wb) (s .p) ⌝ }
 {
-    row_of(of_all(s, a, b, c))
+    row_of(of_all(s, false, a, b, c))
 }
 
 // The same where the words a and b name one row.
 pub fn enumerated_twice(s: Shape, a: Row, c: Row) -> Row
     requires { ⌜ Sized (s .wt) (s .wa) (s .wb) (s .p) ⌝ }
 {
-    if one_number(s.kind) {
-        return row_of(of_one(s, a, c));
-    }
-    enumerated(s, a, a, c)
+    row_of(of_all(s, one_number(s.kind), a, a, c))
 }

@@ -115,7 +115,7 @@ pub fn agrees(s: Shape, a: Row, b: Row, c: Row) -> bool
     leaves(s, 0, a, b, c, result)
 }
 
-// Whether they agree where both operand words name row 0. The row that they could name has the same vector.
+// Whether they agree where both operand words name row 0. Row 1, which no word names, has the same vector.
 pub fn agrees_twice(s: Shape, a: Row, c: Row) -> bool
     requires { ⌜ Sized (s .wt) (s .wa) (s .wb) (s .p) ⌝ }
 {

@@ -5,10 +5,10 @@ use Rattle.oracle.proofs.choices.of_all.Statement.{statement}
 use Rattle.oracle.proofs.choices.of_all.Tie as tie
 
 abbrev Inv-loop : tie.InvT-loop
-Inv-loop s a b c n seen₀ x₀ seen x = x ≤ n
+Inv-loop s one a b c n seen₀ x₀ seen x = x ≤ n
 
 abbrev μ-loop : tie.MeasureT-loop
-μ-loop s a b c n seen₀ x₀ seen x = n - x
+μ-loop s one a b c n seen₀ x₀ seen x = n - x
 
 pub of-all-spec : {M : Type 1} → statement M
 of-all-spec =
