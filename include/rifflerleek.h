@@ -13,9 +13,9 @@
  *
  * Answers. Every call returns by an answer, on every input. A refusal leaves every slice as it was lent.
  *
- * Memory and threads. A call uses what it is lent and some stack: RIFFLERLEEK_STACK_LIMIT bytes are enough for it, which is
- * measured and not proved. It allocates nothing and keeps nothing between calls, so calls may run on several threads at once, if
- * no slice that one of them may write overlaps a slice of another.
+ * Memory and threads. A call uses what it is lent and some stack, at most RIFFLERLEEK_STACK_LIMIT bytes. It allocates nothing and
+ * keeps nothing between calls, so calls may run on several threads at once, if no slice that one of them may write overlaps a slice
+ * of another.
  *
  * The library is for x86-64 Linux.
  */
@@ -31,7 +31,7 @@ extern "C" {
 
 /* Rises by one with every change that a host can see: of a name, a number, a call, an answer or a lent byte. The header that had
  * no version is version 1. CHANGELOG.md names the changes. */
-#define RIFFLERLEEK_VERSION 4
+#define RIFFLERLEEK_VERSION 5
 
 /* Limits. */
 #define RIFFLERLEEK_ROW_LIMIT 256      /* rows in a table */
@@ -47,9 +47,21 @@ extern "C" {
 #define RIFFLERLEEK_ROW_BYTES 44
 #define RIFFLERLEEK_RECORD_BYTES 24
 
-/* Bytes of stack to leave for a call. bash tests/host/run measures the stack of random calls, valid and damaged, and fails if one takes
- * more. */
-#define RIFFLERLEEK_STACK_LIMIT 4096
+/* The calls inside the library. No function of it calls itself, directly or through others, calls one through a pointer, or calls one
+ * of another library. depth: the most functions that are active at once, the call among them. stack: the most bytes of stack that are
+ * taken, from the call's return address down; arguments that stand above it are the caller's. bash tests/host/depth reads both off the
+ * machine code of the archive and compares them with these; they are not proved.
+ *
+ *   call               depth  stack
+ *   rifflerleek_run        2    616
+ *   rifflerleek_count      1     40
+ *   rifflerleek_size       3    372
+ *   rifflerleek_write      3    612
+ *   rifflerleek_read       3    456
+ *   rifflerleek_field      1     16
+ */
+#define RIFFLERLEEK_DEPTH_LIMIT 3   /* the greatest depth of a call */
+#define RIFFLERLEEK_STACK_LIMIT 616 /* the greatest stack of a call, in bytes */
 
 /* A result: refusal is RIFFLERLEEK_DONE, place is 0, and result and second_result are what the call says, else 0. A refusal: its
  * number and its place; result and second_result are 0. */

@@ -11,7 +11,7 @@ use operations::Record;
 use operations::name_len;
 
 // How many digits a number has in decimal.
-fn digit_count(n: usize) -> usize
+pub fn digit_count(n: usize) -> usize
     ensures { λ r. ⌜ r ≡ length (decimal n) ⌝ }
 {
     let mut leading = n;

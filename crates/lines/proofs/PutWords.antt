@@ -1,6 +1,6 @@
 -- Writing a word, a number, a name and the letters of a vector. Assumes nothing.
 --   word-on, word-end                 a word, byte by byte
---   number-small, number-large        a number, by its last digit
+--   number-last, number-first         a number, from its last digit back to its first
 --   letter-x, letter-one, letter-zero one letter;   letters-on, letters-end   the letters, highest first
 use mathlib.Core.Path.{_≡_, refl, sym, ap, ap₂, _∙_, subst}
 use mathlib.Core.Bool.{Bool, cond}
@@ -10,14 +10,13 @@ use native.Mathlib.Numerals.{add-one}
 use native.Mathlib.Omega.{arith}
 use lib.Dec.{eqb}
 use lib.ListN.{length, getD, drop, set, drop-of-length-le}
-use lib.Seq.{drop-cons}
+use lib.Seq.{drop-cons, sets}
 use borrow.Author.Tests.{eq-eqb, ne-eqb}
 use Rattle.bits.specs.Bit.{bit}
 use Rattle.grammar.specs.Words.{letter0, letter1, letterX}
 use Rattle.grammar.specs.Print.{decimal, letter, lettersOf}
 use Rattle.grammar.proofs.Decimals.{decimal-small, decimal-large}
-use Rattle.lines.specs.Put.{Put}
-use Rattle.lines.proofs.Puts.{put-byte, begin, step-on, done-on}
+use Rattle.lines.proofs.Puts.{sets-append, set-sets}
 
 -- ---- a word
 
@@ -30,16 +29,18 @@ word-end w i h = drop-of-length-le w h
 
 -- ---- a number
 
-pub number-small : (l : List ℕ) (at n : ℕ) → n < 10 → Put l (set l at (48 + n)) at (at + 1) (decimal n)
-number-small l at n h = subst (λ (x : List ℕ). Put l (set l at (48 + n)) at (at + 1) x) (sym (decimal-small n h)) (put-byte l at (48 + n))
+-- the last digit put first, and the leading digits before it
+pub number-last : (l : List ℕ) (at n : ℕ) → 10 ≤ n → sets (set l (at + length (decimal (n / 10))) (48 + n % 10)) at (decimal (n / 10)) ≡ sets l at (decimal n)
+number-last l at n h =
+    let lead = decimal (n / 10) in
+    let e : at + length lead ≤ at + length lead = omega arith in
+    set-sets l at (at + length lead) lead (48 + n % 10) e
+    ∙ sym (sets-append l at lead ((48 + n % 10) ∷ []))
+    ∙ ap (sets l at) (sym (decimal-large n h))
 
-pub number-large : {l m : List ℕ} {at mid : ℕ} (n : ℕ) → 10 ≤ n → Put l m at mid (decimal (n / 10)) → Put l (set m mid (48 + n % 10)) at (mid + 1) (decimal n)
-number-large {l} {m} {at} {mid} n h p =
-    let whole = decimal-large n h in
-    done-on refl
-    (step-on ((48 + n % 10) ∷ []) [] refl
-    (step-on (decimal (n / 10)) ((48 + n % 10) ∷ []) whole (begin l at (decimal n) (decimal n) refl) p)
-    (put-byte m mid (48 + n % 10)))
+-- the only digit
+pub number-first : (l : List ℕ) (at n : ℕ) → n < 10 → set l at (48 + n) ≡ sets l at (decimal n)
+number-first l at n h = ap (sets l at) (sym (decimal-small n h))
 
 -- ---- letters
 

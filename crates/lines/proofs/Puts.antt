@@ -1,14 +1,15 @@
 -- Bytes put one after another into a buffer. Assumes nothing.
 --   sets-append                      elements put in two runs
+--   set-sets                         an element put after a run, or before it
 --   put-length, put-byte             what putting does to the buffer
 --   Writing, begin, step, room, done bytes put run by run: what is still to be put, at the place reached, makes up the whole
 --   by-one                           a run of one byte, with its store
 use mathlib.Core.Path.{_≡_, refl, sym, ap, ap₂, _∙_, subst}
 use mathlib.Core.List.{List, [], _∷_, _++_}
-use Prim.Native.Nat.{ℕ, suc, _+_}
+use Prim.Native.Nat.{ℕ, suc, _+_, _≤_}
 use native.Mathlib.Omega.{arith}
 use lib.ListN.{length, set, length-append}
-use lib.Seq.{sets, length-sets}
+use lib.Seq.{sets, set-comm, length-sets}
 use Rattle.lines.specs.Put.{Holds, Put}
 
 pub sets-append : (l : List ℕ) (i : ℕ) (x y : List ℕ) → sets l i (x ++ y) ≡ sets (sets l i x) (i + length x) y
@@ -16,6 +17,11 @@ sets-append l i [] y = let e : i ≡ i + 0 = omega arith in ap (λ (k : ℕ). se
 sets-append l i (a ∷ x) y =
     let e : suc i + length x ≡ i + suc (length x) = omega arith in
     sets-append (set l i a) (suc i) x y ∙ ap (λ (k : ℕ). sets (sets (set l i a) (suc i) x) k y) e
+
+pub set-sets : (l : List ℕ) (i j : ℕ) (x : List ℕ) (b : ℕ) → i + length x ≤ j → sets (set l j b) i x ≡ set (sets l i x) j b
+set-sets l i j [] b h = refl
+set-sets l i j (a ∷ x) b h =
+    ap (λ (k : List ℕ). sets k (suc i) x) (set-comm l j i b a (λ e. omega arith)) ∙ set-sets (set l i a) (suc i) j x b (omega arith)
 
 pub put-length : {old new : List ℕ} {at r : ℕ} {bytes : List ℕ} → Put old new at r bytes → length new ≡ length old
 put-length {old} {at = at} {bytes = bytes} p = ap length (p .text) ∙ length-sets old at bytes

@@ -13,6 +13,7 @@ ghost use Rattle.grammar.specs.Print.{decimal, letter, lettersOf, rowLine, reco
 ghost use Rattle.lines.specs.Put.{Holds, Put};
 use crate::cut::LF;
 use crate::cut::TAB;
+use lengths::digit_count;
 use operations::Record;
 use operations::name_byte;
 use operations::name_len;
@@ -40,18 +41,21 @@ pub fn put_word(out: &mut [u8], at: usize, w: &[u8]) -> usize
     to
 }
 
-// Writes a number from `at` on: its leading digits, then its last digit.
+// Writes a number from `at` on: its last digits from the end back, then its first digit.
 pub fn put_number(out: &mut [u8], at: usize, n: usize) -> usize
     requires { ⌜ Holds (now out) at (decimal n) ⌝ }
     ensures { λ r. ⌜ Put (now (out .entry)) (now (out .exit)) at r (decimal n) ⌝ }
 {
-    if n < 10 {
-        out[at] = 48 + n as u8;
-        return at + 1;
+    let end = at + digit_count(n);
+    let mut to = end;
+    let mut leading = n;
+    while 10 <= leading {
+        to -= 1;
+        out[to] = 48 + (leading % 10) as u8;
+        leading = leading / 10;
     }
-    let end = put_number(out, at, n / 10);
-    out[end] = 48 + (n % 10) as u8;
-    end + 1
+    out[at] = 48 + leading as u8;
+    end
 }
 
 // ---- rows
