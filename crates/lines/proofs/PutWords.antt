@@ -2,7 +2,7 @@
 --   word-on, word-end                 a word, byte by byte
 --   number-last, number-first         a number, from its last digit back to its first
 --   letter-x, letter-one, letter-zero one letter;   letters-on, letters-end   the letters, highest first
-use mathlib.Core.Path.{_≡_, refl, sym, ap, ap₂, _∙_, subst}
+use mathlib.Core.Path.{_≡_, refl, sym, ap, ap₂, _∙_}
 use mathlib.Core.Bool.{Bool, cond}
 use mathlib.Core.List.{List, [], _∷_, _++_}
 use Prim.Native.Nat.{ℕ, zero, suc, _+_, _-_, _/_, _%_, _≤_, _<_}
@@ -29,7 +29,7 @@ word-end w i h = drop-of-length-le w h
 
 -- ---- a number
 
--- the last digit put first, and the leading digits before it
+-- the last digit, and then the leading digits before it
 pub number-last : (l : List ℕ) (at n : ℕ) → 10 ≤ n → sets (set l (at + length (decimal (n / 10))) (48 + n % 10)) at (decimal (n / 10)) ≡ sets l at (decimal n)
 number-last l at n h =
     let lead = decimal (n / 10) in
@@ -38,7 +38,7 @@ number-last l at n h =
     ∙ sym (sets-append l at lead ((48 + n % 10) ∷ []))
     ∙ ap (sets l at) (sym (decimal-large n h))
 
--- the only digit
+-- the first digit, where it is the only one left
 pub number-first : (l : List ℕ) (at n : ℕ) → n < 10 → set l at (48 + n) ≡ sets l at (decimal n)
 number-first l at n h = ap (sets l at) (sym (decimal-small n h))
 

@@ -1,9 +1,9 @@
 -- Bytes put one after another into a buffer. Assumes nothing.
 --   sets-append                      elements put in two runs
---   set-sets                         an element put after a run, or before it
+--   set-sets                         an element that lies beyond a run, put first or last
 --   put-length, put-byte             what putting does to the buffer
 --   Writing, begin, step, room, done bytes put run by run: what is still to be put, at the place reached, makes up the whole
---   by-one                           a run of one byte, with its store
+--   step-on, room-on, done-on        the same, where the rest is known by an equation
 use mathlib.Core.Path.{_≡_, refl, sym, ap, ap₂, _∙_, subst}
 use mathlib.Core.List.{List, [], _∷_, _++_}
 use Prim.Native.Nat.{ℕ, suc, _+_, _≤_}
@@ -53,7 +53,7 @@ room x rest h w = omega (arith, w .place, w .kept, length-append x rest)
 pub done : {old : List ℕ} {from : ℕ} {whole new : List ℕ} {at : ℕ} → Writing old from whole new at [] → Put old new from at whole
 done w = record { ends = omega (arith, w .place); text = w .text }
 
--- the same, where the rest is known to begin with x
+-- the same, where the rest is known by an equation
 pub step-on : {old : List ℕ} {from : ℕ} {whole new new′ : List ℕ} {at at′ : ℕ} {rest : List ℕ} (x rest′ : List ℕ) → rest ≡ x ++ rest′ → Writing old from whole new at rest → Put new new′ at at′ x → Writing old from whole new′ at′ rest′
 step-on {old} {from} {whole} {new} {at = at} x rest′ e w p = step rest′ (subst (Writing old from whole new at) e w) p
 
