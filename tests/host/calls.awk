@@ -1,4 +1,4 @@
-# The calls of an archive for x86-64, read from what objdump prints of it: objdump -t, then -r, then -d -r --no-show-raw-insn.
+# The calls of an archive for x86-64: awk -f listing.awk -f calls.awk reads what objdump prints of it (listing.awk says what).
 #
 # Prints a line for each exported function, parted by tabs: its name, its greatest call depth (the functions that are active at once, itself
 # among them) and its greatest stack (the bytes from its return address down, those below the stack pointer that it uses among them).
@@ -13,82 +13,14 @@ function fail(text) {
     failed = 1
 }
 
-# A number in hexadecimal; one of 64 bits that begins with 32 ones is negative.
-function number(hex,    n, i) {
-    sub(/^0x/, "", hex)
-    if (length(hex) == 16 && hex ~ /^ffffffff/) return number(substr(hex, 9)) - 4294967296
-    n = 0
-    for (i = 1; i <= length(hex); i++)
-        n = 16 * n + index("0123456789abcdef", substr(hex, i, 1)) - 1
-    return n
-}
-
-# The name of a relocation, and what is added to it.
-function base(value) {
-    sub(/[-+]0x[0-9a-f]+$/, "", value)
-    return value
-}
-function added(value,    sign) {
-    if (!match(value, /[-+]0x[0-9a-f]+$/)) return 0
-    sign = substr(value, RSTART, 1) == "-" ? -1 : 1
-    return sign * number(substr(value, RSTART + 1))
-}
-
 # Where instruction i is, in words.
 function place(i) { return of[i] " at " at[i] ": " code[i] (operands[i] == "" ? "" : " " operands[i]) }
-
-# ---- what is read
-
-/^Disassembly of section / { section = $4; sub(/:$/, "", section); part = "code"; next }
-/^RELOCATION RECORDS FOR / { section = $4; gsub(/^\[|\]:$/, "", section); part = "relocations"; next }
-/^SYMBOL TABLE:/ { part = "symbols"; next }
-
-part == "symbols" && / F / {
-    entry[$(NF - 2), number($1)] = $NF
-    if ($2 == "g") exported[++exports] = $NF
-    known[$NF] = 1
-}
-
-part == "relocations" && /^[0-9a-f]+ +R_/ && section ~ /^\.rodata/ { offset[section, number($1)] = $3 }
-
-part == "code" && /^[0-9a-f]+ <.*>:$/ {
-    name = $0
-    sub(/^[0-9a-f]+ </, "", name)
-    sub(/>:$/, "", name)
-    functions[++function_count] = name
-    first[name] = count + 1
-    home[name] = section
-    next
-}
-
-part == "code" && /^ *[0-9a-f]+:\t/ {
-    line = $0
-    sub(/ *#.*/, "", line)
-    sub(/ *<[^>]*>$/, "", line)
-    split(line, fields, "\t")
-    count++
-    at[count] = fields[1]
-    gsub(/[ :]/, "", at[count])
-    text = fields[2]
-    while (text ~ /^(notrack|bnd|repz|rep|data16|cs) /) sub(/^[a-z0-9]+ +/, "", text)
-    code[count] = text
-    sub(/ .*/, "", code[count])
-    operands[count] = text
-    if (!sub(/^[^ ]+ +/, "", operands[count])) operands[count] = ""
-    of[count] = name
-    here[section, number(at[count])] = count
-    next
-}
-
-part == "code" && /^\t+[0-9a-f]+: R_/ {
-    moved[count] = $3
-    table_start[base($3), added($3) + 4] = 1
-}
 
 # ---- the stack at each instruction
 
 # Instruction i is reached with so many bytes on the stack.
 function reach(i, size, from) {
+    if (i != from + 1) landed[i] = 1
     if (!(i in of) || of[i] != of[from])
         fail(place(from) " goes on outside its function")
     else if (!(i in bytes)) {
@@ -115,12 +47,14 @@ function calls(i, size,    to, name) {
 }
 
 # Whether the instructions before i make it a jump by a table of offsets: lea TABLE(%rip),T; movslq (T,I,4),R; add T,R; jmp *R.
-function by_table(i,    r, t) {
+function by_table(i,    r, t, source) {
     r = substr(operands[i], 2)
     t = operands[i - 1]
     sub(/,.*/, "", t)
+    source = operands[i - 2]
+    sub(/^0x0/, "", source)
     return code[i - 3] ~ /^leaq?$/ && operands[i - 3] ~ /^(0x0)?\(%rip\),/ && ends(operands[i - 3], "," t) && base(moved[i - 3]) ~ /^\.rodata/ &&
-        code[i - 2] ~ /^movslq?$/ && index(operands[i - 2], "(" t ",") > 0 && ends(operands[i - 2], ",4)," r) &&
+        code[i - 2] ~ /^movslq?$/ && index(source, "(" t ",") == 1 && ends(source, ",4)," r) &&
         code[i - 1] ~ /^addq?$/ && operands[i - 1] == t "," r
 }
 function ends(text, end) { return substr(text, length(text) - length(end) + 1) == end }
@@ -131,6 +65,7 @@ function choose(i, size,    table, start, k) {
         fail(place(i) ": an indirect jump")
         return
     }
+    chosen[++choices] = i
     table = base(moved[i - 3])
     start = added(moved[i - 3]) + 4
     for (k = start; ((table, k) in offset) && (k == start || !((table, k) in table_start)); k += 4) {
@@ -149,8 +84,8 @@ function follow(i,    o, a, size, now) {
     o = code[i]
     a = operands[i]
     size = now = bytes[i]
-    if (o ~ /^push/) now += 8
-    else if (o ~ /^pop/ && a != "%rsp") now -= 8
+    if (o ~ /^push(q|fq?)?$/) now += 8
+    else if (o ~ /^pop(q|fq?)?$/ && a != "%rsp") now -= 8
     else if (o ~ /^(sub|add)q?$/ && a ~ /^\$0x[0-9a-f]+,%rsp$/) now += (o ~ /^sub/ ? 1 : -1) * number(substr(a, 2, index(a, ",") - 2))
     else if (a ~ /(^|,)%[re]?spl?$/ || (o ~ /^x(chg|add)/ && a ~ /%[re]?spl?,/) || o ~ /^(leave|enter)/) fail(place(i) ": where the stack pointer is then is not known")
     take(of[i], now)
@@ -198,6 +133,9 @@ END {
         waiting[++waiters] = i
     }
     while (waiters > 0) follow(waiting[waiters--])
+    for (f = 1; f <= choices; f++) # the instructions of a jump by a table are passed through one after another
+        for (i = chosen[f] - 2; i <= chosen[f]; i++)
+            if (i in landed) fail(place(i) ": a jump leads into a jump by a table")
     for (f = 1; f <= function_count; f++)
         if (state[functions[f]] == "") measure(functions[f], functions[f])
     if (exports == 0) fail("no exported function")
