@@ -15,7 +15,7 @@ Line line_of(const Plan &plan, double run, double empty)
 
 int main()
 {
-    std::vector<Table> starts = draw_tables(), tables = starts;
+    std::vector<Table> starts = draw_tables(KINDS), tables = starts;
     std::vector<Pass> contestants;
     for (std::size_t i = 0; i < starts.size(); i++)
         contestants.insert(contestants.end(), {pass_from(rifflerleek_run, tables[i], starts[i], RECORDS),

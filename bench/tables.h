@@ -8,7 +8,7 @@
 #include <cstdlib>
 #include <cstring>
 
-inline constexpr uint32_t RECORDS = 1024, KINDS = 21, UNKNOWN = 4;
+inline constexpr uint32_t RECORDS = 1024, KINDS = 24, UNKNOWN = 4;
 
 // Rows of one width: the first half are locked inputs, the others are open.
 struct Group {
@@ -45,6 +45,7 @@ inline constexpr Shape shapes[KINDS] = {
     {RIFFLERLEEK_KIND_SEXT, 32, 16, 0, 0, 0},     {RIFFLERLEEK_KIND_ADD, 32, 32, 32, 0, 0},    {RIFFLERLEEK_KIND_SUB, 32, 32, 32, 0, 0},
     {RIFFLERLEEK_KIND_NEG, 32, 32, 0, 0, 0},      {RIFFLERLEEK_KIND_MUL, 32, 32, 32, 0, 0},    {RIFFLERLEEK_KIND_EQ, 1, 32, 32, 0, 0},
     {RIFFLERLEEK_KIND_ULT, 1, 32, 32, 0, 0},      {RIFFLERLEEK_KIND_SLT, 1, 32, 32, 0, 0},     {RIFFLERLEEK_KIND_ITE, 32, 32, 32, 1, 0},
+    {RIFFLERLEEK_KIND_UMULW, 32, 16, 16, 0, 0},   {RIFFLERLEEK_KIND_SMULW, 32, 16, 16, 0, 0},  {RIFFLERLEEK_KIND_SUMULW, 32, 16, 16, 0, 0},
 };
 
 inline const Groups one_width = {{32, 0, 64}};
@@ -131,13 +132,15 @@ inline Table draw_table(std::mt19937 &random, const Plan &plan)
     return t;
 }
 
-// One table for each plan.
-inline std::vector<Table> draw_tables()
+// One table for each plan, with no more kinds than that.
+inline std::vector<Table> draw_tables(uint32_t kinds)
 {
     std::mt19937 random(SEED);
     std::vector<Table> tables;
-    for (const Plan &plan : plans)
+    for (Plan plan : plans) {
+        plan.kinds = std::min(plan.kinds, kinds);
         tables.push_back(draw_table(random, plan));
+    }
     return tables;
 }
 

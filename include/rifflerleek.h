@@ -31,7 +31,7 @@ extern "C" {
 
 /* Rises by one with every change that a host can see: of a name, a number, a call, an answer or a lent byte. The header that had
  * no version is version 1. CHANGELOG.md names the changes. */
-#define RIFFLERLEEK_VERSION 5
+#define RIFFLERLEEK_VERSION 6
 
 /* Limits. */
 #define RIFFLERLEEK_ROW_LIMIT 256      /* rows in a table */
@@ -53,15 +53,15 @@ extern "C" {
  * machine code of the archive and compares them with these; they are not proved.
  *
  *   call               depth  stack
- *   rifflerleek_run        2    616
+ *   rifflerleek_run        4    728
  *   rifflerleek_count      1     40
  *   rifflerleek_size       3    372
- *   rifflerleek_write      3    612
- *   rifflerleek_read       3    456
+ *   rifflerleek_write      3    628
+ *   rifflerleek_read       3    488
  *   rifflerleek_field      1     16
  */
-#define RIFFLERLEEK_DEPTH_LIMIT 3   /* the greatest depth of a call */
-#define RIFFLERLEEK_STACK_LIMIT 616 /* the greatest stack of a call, in bytes */
+#define RIFFLERLEEK_DEPTH_LIMIT 4   /* the greatest depth of a call */
+#define RIFFLERLEEK_STACK_LIMIT 728 /* the greatest stack of a call, in bytes */
 
 /* A result: refusal is RIFFLERLEEK_DONE, place is 0, and result and second_result are what the call says, else 0. A refusal: its
  * number and its place; result and second_result are 0. */
@@ -94,7 +94,10 @@ enum {
     RIFFLERLEEK_KIND_EQ = 17,
     RIFFLERLEEK_KIND_ULT = 18,
     RIFFLERLEEK_KIND_SLT = 19,
-    RIFFLERLEEK_KIND_ITE = 20
+    RIFFLERLEEK_KIND_ITE = 20,
+    RIFFLERLEEK_KIND_UMULW = 21,
+    RIFFLERLEEK_KIND_SMULW = 22,
+    RIFFLERLEEK_KIND_SUMULW = 23
 };
 
 /* The refusals: their condition, and their place after the semicolon. The first condition that holds refuses, in this order:
@@ -125,8 +128,8 @@ enum {
 
 /* Runs the records from first up to but not including last, after a check of the whole table. result is last, and mask and value
  * hold the rows that the stretch leaves, each target the best vector that covers every result. Where the words a and b of a record
- * name one row, both operands are the same number; for RIFFLERLEEK_KIND_MUL they stay independent. Refusals 1 to 10: no row is
- * changed, also not by the records before the one refused. */
+ * name one row, both operands are the same number; for RIFFLERLEEK_KIND_MUL, _UMULW, _SMULW and _SUMULW they stay independent.
+ * Refusals 1 to 10: no row is changed, also not by the records before the one refused. */
 rifflerleek_answer rifflerleek_run(const uint8_t *width, size_t widths, const uint8_t *lock, size_t locks, uint32_t *mask,
                                    size_t masks, uint32_t *value, size_t values, const uint32_t *words, size_t word_count,
                                    size_t first, size_t last);

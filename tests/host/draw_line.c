@@ -86,12 +86,13 @@ static void damage_words(struct line *l)
 {
     static const char *const firsts[] = {"Row", "ro", "rows", "ops", "o", "OP", "row ", "", "op", "row"};
     static const char *const locks[] = {"Open", "lock", "lockedd", "ope", "OPEN", "0", "open "};
-    static const char *const names[] = {"ad", "addd", "ADD", "nop", "div", "13", "sh", "ashrl", "ultt", "it"};
+    static const char *const names[] = {"ad", "addd", "ADD", "nop", "div", "13", "sh", "ashrl", "ultt", "it",
+                                        "mulw", "umul", "smulww", "sumul"};
     static const char *const numbers[] = {"1000", "9999", "18446744073709551616", "4294967296", "00", "000", "+1", "-1", "1a", "1:", "/1", "1.0", "0x1", " 1"};
     int row = l->count == 3;
     switch (below(5)) {
     case 0: set(l, 0, firsts[below(10)]); return;
-    case 1: set(l, 1, row ? locks[below(7)] : names[below(10)]); return;
+    case 1: set(l, 1, row ? locks[below(7)] : names[below(14)]); return;
     case 2:
         if (row)
             letters(l, percent(50) ? 33 + below(3) : 0);

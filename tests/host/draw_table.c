@@ -44,10 +44,10 @@ static unsigned draw_width(void)
 // A few widths that go together, so that records of every kind find rows that fit.
 static void draw_widths(struct draft *d)
 {
-    unsigned a = draw_width(), b = draw_width(), sum = a + b <= 32 ? a + b : a;
-    unsigned pool[] = {a, a, a, a, b, b, sum, sum, 1, draw_width()};
+    unsigned a = draw_width(), b = draw_width(), sum = a + b <= 32 ? a + b : a, twice = a <= 16 ? 2 * a : a;
+    unsigned pool[] = {a, a, a, a, b, b, sum, sum, twice, twice, 1, draw_width()};
     for (size_t i = 0; i < d->widths; i++)
-        d->width[i] = (uint8_t)pool[below(10)];
+        d->width[i] = (uint8_t)pool[below(12)];
 }
 
 static uint32_t few_bits(unsigned width)

@@ -19,7 +19,7 @@ struct ref_table {
     size_t widths, locks, masks, values, word_count;
 };
 
-enum { KINDS = 21, MUL = 16, ITE = 20 };
+enum { KINDS = 24, MUL = 16, ITE = 20, UMULW = 21, SMULW = 22, SUMULW = 23 };
 
 // What a word of a record means for its kind.
 enum use { NOTHING, ROW, NUMBER };
@@ -32,7 +32,7 @@ struct kind {
 extern const struct kind kinds[KINDS];
 
 // A record's operation on plain numbers: widths of target and operands, parameter, and the operands a, b and the row of p.
-// one_number: a and b are one row, which gives one number for both.
+// one_number: a and b are one row, which gives one number for both; not so for a product.
 struct ref_op {
     uint32_t kind, p;
     unsigned wt, w[3];

@@ -9,6 +9,7 @@ const struct kind kinds[KINDS] = {
     {"sext", ROW, NOTHING, NOTHING}, {"add", ROW, ROW, NOTHING},         {"sub", ROW, ROW, NOTHING},
     {"neg", ROW, NOTHING, NOTHING},  {"mul", ROW, ROW, NOTHING},         {"eq", ROW, ROW, NOTHING},
     {"ult", ROW, ROW, NOTHING},      {"slt", ROW, ROW, NOTHING},         {"ite", ROW, ROW, ROW},
+    {"umulw", ROW, ROW, NOTHING},    {"smulw", ROW, ROW, NOTHING},       {"sumulw", ROW, ROW, NOTHING},
 };
 
 struct ref_answer ref_result(size_t result, uint64_t second_result)
@@ -27,7 +28,7 @@ static int widths_fit(uint32_t kind, unsigned wt, unsigned wa, unsigned wb, unsi
     case 0: case 1: case 5: case 6: case 7: case 8: case 15: return wt == wa;
     case 2: case 3: case 4: case 13: case 14: case 16: return wt == wa && wa == wb;
     case 9: return p + wt <= wa;
-    case 10: return wt == wa + wb;
+    case 10: case 21: case 22: case 23: return wt == wa + wb;
     case 11: case 12: return wt >= wa;
     case 17: case 18: case 19: return wa == wb && wt == 1;
     default: return wt == wa && wa == wb && wp == 1;

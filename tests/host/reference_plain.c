@@ -16,7 +16,15 @@ static unsigned least(unsigned x, unsigned y)
     return x < y ? x : y;
 }
 
-// The new number, as the paper's list of plain runs gives it.
+// The product of all bits: modulo 2^wt, each operand signed or not.
+static uint64_t wide_product(const struct ref_op *o, uint64_t a, uint64_t b)
+{
+    int64_t x = o->kind == UMULW ? (int64_t)a : as_signed(a, o->w[0]);
+    int64_t y = o->kind == SMULW ? as_signed(b, o->w[1]) : (int64_t)b;
+    return (uint64_t)(x * y) % ((uint64_t)1 << o->wt);
+}
+
+// The new number, as the paper's list of plain runs gives it; its list ends with kind 20.
 uint64_t ref_plain(const struct ref_op *o, uint64_t a, uint64_t b, uint64_t c)
 {
     unsigned w = o->w[0], p = o->p;
@@ -46,6 +54,7 @@ uint64_t ref_plain(const struct ref_op *o, uint64_t a, uint64_t b, uint64_t c)
     case 17: return a == b;
     case 18: return a < b;
     case 19: return as_signed(a, w) < as_signed(b, w);
+    case 21: case 22: case 23: return wide_product(o, a, b);
     default: return c == 1 ? a : b;
     }
 }
@@ -64,7 +73,9 @@ void ref_needed(const struct ref_op *o, unsigned k, uint64_t need[3])
     case 7: case 12: need[0] = one << least(k + p, w - 1); return;
     case 8: need[0] = one << (k + w - p % w) % w; return;
     case 10: need[0] = k >= o->w[1] ? here >> o->w[1] : 0; need[1] = here; return;
-    case 13: case 14: case 15: case 16: need[0] = need[1] = 2 * here - 1; return;
+    case 13: case 14: case 15: case 16: case 21: case 22: case 23: // bit i, also a sign, makes no difference below 2^i
+        need[0] = need[1] = 2 * here - 1;
+        return;
     case 20: need[0] = need[1] = here; need[2] = 1; return;
     default: need[0] = need[1] = (one << w) - 1;
     }

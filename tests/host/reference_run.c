@@ -100,11 +100,17 @@ int ref_named_twice(const uint32_t *record)
     return kinds[record[0]].b == ROW && record[2] == record[3];
 }
 
+// The operands of a product stay independent, also where they are one row.
+static int independent(uint32_t kind)
+{
+    return kind == MUL || (kind >= UMULW && kind <= SUMULW);
+}
+
 int ref_step(struct ref_table *t, size_t r, unsigned limit)
 {
     const uint32_t *w = t->words + 5 * r;
     struct kind kind = kinds[w[0]];
-    struct ref_op o = {w[0], kind.p == NUMBER ? w[4] : 0, t->width[w[1]], {0, 0, 0}, ref_named_twice(w) && w[0] != MUL};
+    struct ref_op o = {w[0], kind.p == NUMBER ? w[4] : 0, t->width[w[1]], {0, 0, 0}, ref_named_twice(w) && !independent(w[0])};
     struct vector v[3] = {{0, 0}, {0, 0}, {0, 0}}, result = {0, 0};
     enum use uses[3] = {kind.a, kind.b, kind.p};
     for (int j = 0; j < 3; j++)

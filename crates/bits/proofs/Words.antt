@@ -1,15 +1,15 @@
 -- Words cut to fewer bits, and numbers in the order of their bits. Assumes nothing.
---   cut-twice    a cut to v bits before a cut to w bits
+--   cut-twice    a cut to v bits before a cut to w bits;  sub-cut   a wrapping difference, cut to w bits
 --   bit-clear    the bits of a & !m in a word of v bits
 --   low-le       the lowest bits in order
 --   le-of-bits   whole numbers in order
 --   or-cases     a set bit of m | n is one of m or of n
 --   or-zero      numbers whose | is 0 are 0;  xor-zero   numbers whose ^ is 0 are equal
 --   shifted-bit, shifted-one   a bit at place i of a word
-use mathlib.Core.Path.{_≡_, ap, _∙_}
+use mathlib.Core.Path.{_≡_, sym, ap, _∙_}
 use mathlib.Core.Logic.{_⊎_, inl, inr}
 use Prim.Native.Nat.{ℕ, zero, suc, _+_, _-_, _*_, _%_, _^_, _≤_, _<_, min}
-use native.Mathlib.Nat.{mod-one, mod-eq-of-lt, mul-le-mul-right, one-mul}
+use native.Mathlib.Nat.{mod-one, mod-eq-of-lt, mod-add-mod, add-mod-right, add-assoc, mul-le-mul-right, one-mul}
 use native.Mathlib.Omega.{arith}
 use lib.Pow.{mod-mod-pow, shl-exact}
 use lib.Bits.{bitAnd, bitOr, bitXor, and-le-l, and-le-r, or-add-and, xor-add-and}
@@ -22,6 +22,17 @@ pub cut-twice : (w v n : ℕ) → w ≤ v → n % 2 ^ v % 2 ^ w ≡ n % 2 ^ w
 cut-twice w v n h =
     let e : v ≡ v - w + w = omega arith in
     ap (λ (k : ℕ). n % 2 ^ k % 2 ^ w) e ∙ mod-mod-pow n (v - w) w
+
+-- a wrapping difference d of x and y, as a sum
+pub sub-cut : (w v d x y : ℕ) → w ≤ v → y < 2 ^ w → (d + y) % 2 ^ v ≡ x → d % 2 ^ w ≡ (x + (2 ^ w - 1 - y) + 1) % 2 ^ w
+sub-cut w v d x y h l e =
+    let g : d + y + (2 ^ w - 1 - y + 1) ≡ d + 2 ^ w = omega arith in
+    sym (add-mod-right d (2 ^ w))
+    ∙ ap (λ (n : ℕ). n % 2 ^ w) (sym g)
+    ∙ sym (mod-add-mod (d + y) (2 ^ w) (2 ^ w - 1 - y + 1))
+    ∙ ap (λ (n : ℕ). (n + (2 ^ w - 1 - y + 1)) % 2 ^ w) (sym (cut-twice w v (d + y) h))
+    ∙ mod-add-mod ((d + y) % 2 ^ v) (2 ^ w) (2 ^ w - 1 - y + 1)
+    ∙ ap (λ (n : ℕ). n % 2 ^ w) (ap (λ (n : ℕ). n + (2 ^ w - 1 - y + 1)) e ∙ sym (add-assoc x (2 ^ w - 1 - y) 1))
 
 pub bit-clear : (v a m k : ℕ) → m < 2 ^ v → k < v → bit (bitAnd a (2 ^ v - 1 - m)) k ≡ min (bit a k) (1 - bit m k)
 bit-clear v a m k h l = bit-and a (2 ^ v - 1 - m) k ∙ ap (min (bit a k)) (bit-complement v m k h l)

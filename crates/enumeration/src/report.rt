@@ -31,7 +31,7 @@ pub fn print_kind(kind: usize)
     requires { ⌜ kind < 32 ⌝ }
 {
     print_word(
-        b"copy    not     and     or      xor     shl     lshr    ashr    rotl    extract concat  zext    sext    add     sub     neg     mul     eq      ult     slt     ite     ",
+        b"copy    not     and     or      xor     shl     lshr    ashr    rotl    extract concat  zext    sext    add     sub     neg     mul     eq      ult     slt     ite     umulw   smulw   sumulw  ",
         8 * kind,
     );
 }

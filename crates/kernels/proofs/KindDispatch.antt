@@ -1,16 +1,22 @@
 -- The arm of each kind: a kernel's operands under the names of the dispatch. Assumes nothing.
 use mathlib.Core.Path.{_≡_, refl}
-use mathlib.Core.Bool.{_&&_}
-use mathlib.Core.List.{[], _∷_}
+use mathlib.Core.Bool.{Bool, true, false, _&&_}
+use mathlib.Core.List.{List, [], _∷_}
+use Prim.Native.Nat.{ℕ}
 use lib.Dec.{eqb}
 use Rattle.bits.proofs.Bools.{T-left}
 use Rattle.vectors.specs.Row.{row}
-use Rattle.operations.specs.Kind.{chosenWidths}
+use Rattle.vectors.specs.Best.{best}
+use Rattle.operations.specs.Kind.{bytes, chosenWidths}
 use Rattle.operations.specs.Bitwise.{opCopy, opNot, opAnd, opOr, opXor}
 use Rattle.operations.specs.Moves.{opShl, opLshr, opAshr, opRotl, opExtract, opConcat, opZext, opSext}
 use Rattle.operations.specs.Arithmetic.{opAdd, opSub, opNeg, opMul, opEq, opUlt, opSlt, opIte}
+use Rattle.operations.specs.Wide.{wideNumber, wideKind, opUmulw, opSmulw, opSumulw}
 use Rattle.operations.specs.Kinds.{kindOf}
+use Rattle.operations.specs.Record.{operands}
 use Rattle.operations.specs.Result.{resultOf}
+use Rattle.wide_products.specs.Apart.{Factor}
+use Rattle.wide_products.proofs.Kernel.{wide-factors}
 use Rattle.kernels.proofs.Dispatch.{Given, Arm, SameRow, SameRows, ComparedRows, arm, none, rule, both-same, one-row, two-rows, compared-rows}
 
 pub arm-copy : (g : Given) → g .kind ≡ 0 → SameRow g opCopy 0
@@ -105,3 +111,30 @@ arm-ite g e =
       asks = record { count = R .count; formed = R .formed; wide = R .wide; widths = R .widths; fits = R .fits; parameter = tt };
       gives = A .gives;
     }
+
+-- ---- the wide products: one kernel over two signs
+
+pub record WideArm (g : Given) (sa sb : Bool) : Type 0 where
+  pub first : Factor (g .wt) (g .ra)
+  pub second : Factor (g .wt) (g .rb)
+  pub gives : best (g .wt) (wideNumber sa sb (g .wt) (g .ra .width ∷ g .rb .width ∷ [])) (g .ra ∷ g .rb ∷ [])
+      ≡ resultOf (kindOf (g .kind)) (g .wt) (g .p) (operands (kindOf (g .kind)) (g .ra) (g .rb) (g .rc))
+
+arm-wide : (n : ℕ) (name : List ℕ) (sa sb : Bool) → kindOf n ≡ wideKind n name sa sb → (g : Given) → g .kind ≡ n → WideArm g sa sb
+unfolding resultOf
+arm-wide n name sa sb own g e =
+    let A = arm (wideKind n name sa sb) n own g e refl (none (wideKind n name sa sb) n own g e refl) refl in
+    let (F, G) = wide-factors n name sa sb (g .wt) 0 (g .ra) (g .rb) (A .asks) in
+    record { first = F; second = G; gives = A .gives }
+
+pub arm-umulw : (g : Given) → g .kind ≡ 21 → WideArm g false false
+unfolding kindOf opUmulw
+arm-umulw = arm-wide 21 (bytes "umulw") false false refl
+
+pub arm-smulw : (g : Given) → g .kind ≡ 22 → WideArm g true true
+unfolding kindOf opSmulw
+arm-smulw = arm-wide 22 (bytes "smulw") true true refl
+
+pub arm-sumulw : (g : Given) → g .kind ≡ 23 → WideArm g true false
+unfolding kindOf opSumulw
+arm-sumulw = arm-wide 23 (bytes "sumulw") true false refl

@@ -4,6 +4,7 @@ use logic::comparison;
 use logic::logical;
 use logic::movement;
 use vectors::Vector;
+use wide_products::wide_product;
 ghost use mathlib.Core.Path.{_≡_};
 ghost use Prim.Native.Nat.{_≤_};
 ghost use lib.Dec.{T};
@@ -52,6 +53,9 @@ pub fn apply(
         18 => comparison::ult(wa, ma, va, mb, vb),
         19 => comparison::slt(wa, ma, va, mb, vb),
         20 => choice::ite(wt, ma, va, mb, vb, mc, vc),
+        21 => wide_product(false, false, wt, wa, wb, ma, va, mb, vb),
+        22 => wide_product(true, true, wt, wa, wb, ma, va, mb, vb),
+        23 => wide_product(true, false, wt, wa, wb, ma, va, mb, vb),
         _ => movement::copy(wt, ma, va),
     }
 }

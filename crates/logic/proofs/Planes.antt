@@ -1,22 +1,25 @@
 -- The words that move a plane are the kinds' plain numbers, for every width and in a word of n bits. Assumes nothing.
 --   shl-word, extract-word, concat-word   shifts, cut to the width or joined
---   sext-same, sext-fill                  copies of a top bit that is 0, and of one that is 1
+--   turned-top                            a number with its top bit turned
+--   extended-word                         a number extended by its sign, or by zeros
 --   ashr-sext                             an arithmetic shift is a shift and copies of the top bit
 use mathlib.Core.Path.{_≡_, sym, ap, ap₂, _∙_, subst}
-use mathlib.Core.Logic.{inl, inr}
+use mathlib.Core.Bool.{Bool, true, false}
 use mathlib.Core.List.{[], _∷_}
-use Prim.Native.Nat.{ℕ, suc, _+_, _-_, _*_, _/_, _%_, _^_, _≤_, _<_, min}
-use native.Mathlib.Nat.{zero-mul, one-mul, zero-add, add-zero, div-eq-of-lt}
+use Prim.Native.Nat.{ℕ, zero, suc, _+_, _-_, _*_, _/_, _%_, _^_, _≤_, _<_, min}
+use native.Mathlib.Nat.{pow-suc, mod-lt, mod-eq-of-lt, add-mod-right, lt-of-lt-of-le}
 use native.Mathlib.Omega.{arith}
-use lib.Pow.{shl-exact, shr-lt, ones-lt, ones-split}
-use lib.Bits.{bitAnd, bitOr, bitXor, and-mask, or-shifted, or-shifted-r, xor-block, xor-zero-r, xor-self}
-use Rattle.bits.specs.Bit.{bit, isSet, number}
-use Rattle.bits.proofs.Bits.{bit-cases}
-use Rattle.bits.proofs.Shifts.{bit-div, top-zero}
-use Rattle.bits.proofs.Numbers.{isSet-same, number-ext}
+use lib.Pow.{pow-pos, pow-mono, shl-exact, shr-lt}
+use lib.Bits.{bitAnd, bitOr, bitXor, and-mask, or-shifted, xor-block, xor-zero-l, xor-zero-r, xor-self}
+use Rattle.bits.specs.Bit.{bit}
+use Rattle.bits.proofs.Bits.{bit-lt}
+use Rattle.bits.proofs.Shifts.{bit-div, top-split}
+use Rattle.bits.proofs.Numbers.{digit-isSet, isSet-same, number-ext}
 use Rattle.operations.specs.Moves.{opShl, opAshr, opExtract, opConcat, opSext}
-use Rattle.operations.proofs.SmtBits.{sign-extended}
-use Rattle.bits.proofs.Words.{cut-twice}
+use Rattle.operations.specs.Encoding.{signPlace}
+use Rattle.operations.specs.Wide.{countedAs}
+use Rattle.operations.proofs.WideNumbers.{counted-unsigned}
+use Rattle.bits.proofs.Words.{cut-twice, sub-cut}
 
 pub shl-word : (w p x n : ℕ) → w ≤ n → bitAnd (x * 2 ^ p % 2 ^ n) (2 ^ w - 1) ≡ opShl .plain w (w ∷ []) p (x ∷ [])
 unfolding opShl
@@ -32,48 +35,59 @@ concat-word wt wa wb x y n h i l = ap (λ (z : ℕ). bitOr z y) (shl-exact wa wb
 
 -- ---- copies of the top bit
 
--- the word shifted down to its top bit tells that bit
-top-is-0 : (x k : ℕ) → x / 2 ^ k ≡ 0 → bit x k ≡ 0
-unfolding bit
-top-is-0 x k e = ap (λ (y : ℕ). y % 2) e
+-- with H for the top bit's place and T for the width's end: the top bit b turned, H taken away, and the rest y
+turned : (b y H T : ℕ) → b < 2 → y < H → H + H ≤ T → (bitXor b 1 * H + y + (T - 1 - H) + 1) % T ≡ b * H + y + b * (T - (H + H))
+turned zero y H T p q r =
+    let e : bitXor 0 1 * H + y + (T - 1 - H) + 1 ≡ y + T = omega (arith, ap (λ (c : ℕ). c * H) (xor-zero-l 1)) in
+    ap (λ (c : ℕ). c % T) e ∙ add-mod-right y T ∙ mod-eq-of-lt (omega arith) ∙ omega arith
+turned (suc zero) y H T p q r =
+    let e : bitXor 1 1 * H + y + (T - 1 - H) + 1 ≡ 1 * H + y + 1 * (T - (H + H)) = omega (arith, ap (λ (c : ℕ). c * H) (xor-self 1)) in
+    ap (λ (c : ℕ). c % T) e ∙ mod-eq-of-lt (omega arith)
+turned (suc (suc b)) y H T p q r = absurd (omega arith)
 
-top-is-1 : (x w : ℕ) → 1 ≤ w → x < 2 ^ w → (x / 2 ^ (w - 1) ≡ 0 → ⊥) → bit x (w - 1) ≡ 1
-top-is-1 x w h l d =
-    let e : w ≡ suc (w - 1) = omega arith in
-    elim (bit-cases x (w - 1)) [
-      | inl z ↦ absurd (d (div-eq-of-lt (top-zero x (w - 1) (subst (λ (n : ℕ). x < 2 ^ n) e l) z)))
-      | inr z ↦ z
-    ]
+module _ (wa x : ℕ) (h : 1 ≤ wa) (l : x < 2 ^ wa) where
+  abbrev H : ℕ
+  H = 2 ^ (wa - 1)
 
--- the ones from bit w up
-ones-above : (i w : ℕ) → bitXor (2 ^ (i + w) - 1) (2 ^ w - 1) ≡ (2 ^ i - 1) * 2 ^ w
-ones-above i w =
-    let e : 2 ^ w - 1 ≡ 0 * 2 ^ w + (2 ^ w - 1) = omega arith in
-    ap₂ bitXor (ones-split i w) e
-    ∙ xor-block w (2 ^ i - 1) 0 (2 ^ w - 1) (2 ^ w - 1) (ones-lt w) (ones-lt w)
-    ∙ ap₂ (λ (y z : ℕ). y * 2 ^ w + z) (xor-zero-r (2 ^ i - 1)) (xor-self (2 ^ w - 1))
-    ∙ add-zero ((2 ^ i - 1) * 2 ^ w)
+  twice : 2 ^ wa ≡ H + H
+  twice = let e : wa ≡ suc (wa - 1) = omega arith in ap (λ (n : ℕ). 2 ^ n) e ∙ omega (arith, pow-suc 2 (wa - 1))
+
+  split : x ≡ bit x (wa - 1) * H + x % H
+  split = let e : wa ≡ suc (wa - 1) = omega arith in top-split x (wa - 1) (subst (λ (n : ℕ). x < 2 ^ n) e l)
+
+  -- x with its top bit turned
+  pub turned-top : bitXor x (2 ^ (wa - 1)) ≡ bitXor (bit x (wa - 1)) 1 * 2 ^ (wa - 1) + x % 2 ^ (wa - 1)
+  turned-top =
+      let e : H ≡ 1 * H + 0 = omega arith in
+      ap₂ bitXor split e
+      ∙ xor-block (wa - 1) (bit x (wa - 1)) 1 (x % H) 0 (mod-lt x (pow-pos (wa - 1))) (pow-pos (wa - 1))
+      ∙ ap (λ (y : ℕ). bitXor (bit x (wa - 1)) 1 * H + y) (xor-zero-r (x % H))
 
 module _ (wt wa x : ℕ) (h : 1 ≤ wa) (i : wa ≤ wt) (l : x < 2 ^ wa) where
-  width-sum : wt ≡ wt - wa + wa
-  width-sum = omega arith
+  -- d is the wrapping difference of that and the sign's place, in a word of n bits
+  signed-word : (n d : ℕ) → wt ≤ n → (d + 2 ^ (wa - 1)) % 2 ^ n ≡ bitXor x (2 ^ (wa - 1)) → bitAnd d (2 ^ wt - 1) ≡ countedAs true wt wa x
+  unfolding countedAs
+  signed-word n d k e =
+      let H = 2 ^ (wa - 1) in
+      let m : H + H ≤ 2 ^ wt = subst (λ (y : ℕ). y ≤ 2 ^ wt) (twice wa x h l) (pow-mono i) in
+      and-mask d wt
+      ∙ sub-cut wt n d (bitXor x H) H k (omega (arith, pow-pos (wa - 1))) e
+      ∙ ap (λ (y : ℕ). (y + (2 ^ wt - 1 - H) + 1) % 2 ^ wt) (turned-top wa x h l)
+      ∙ turned (bit x (wa - 1)) (x % H) H (2 ^ wt) (bit-lt x (wa - 1)) (mod-lt x (pow-pos (wa - 1))) m
+      ∙ (λ ι. sym (split wa x h l) ι + sym (digit-isSet x (wa - 1)) ι * (2 ^ wt - sym (twice wa x h l) ι))
 
-  sext-sum : (b : ℕ) → bit x (wa - 1) ≡ b → opSext .plain wt (wa ∷ []) 0 (x ∷ []) ≡ b * (2 ^ (wt - wa) - 1) * 2 ^ wa + x
-  unfolding opSext
-  sext-sum b e =
-      ap (λ (n : ℕ). number n (λ k. isSet x (min k (wa - 1)))) width-sum
-      ∙ sign-extended (wt - wa) wa x h l
-      ∙ ap (λ (y : ℕ). y * (2 ^ (wt - wa) - 1) * 2 ^ wa + x) e
+  unsigned-word : (n d : ℕ) → wt ≤ n → (d + 0) % 2 ^ n ≡ bitXor x 0 → bitAnd d (2 ^ wt - 1) ≡ countedAs false wt wa x
+  unsigned-word n d k e =
+      let z : d + 0 ≡ d = omega arith in
+      and-mask d wt
+      ∙ sym (cut-twice wt n d k)
+      ∙ ap (λ (y : ℕ). y % 2 ^ wt) (ap (λ (y : ℕ). y % 2 ^ n) (sym z) ∙ e ∙ xor-zero-r x)
+      ∙ mod-eq-of-lt (lt-of-lt-of-le l (pow-mono i))
+      ∙ sym (counted-unsigned wt wa x)
 
-  pub sext-same : x / 2 ^ (wa - 1) ≡ 0 → x ≡ opSext .plain wt (wa ∷ []) 0 (x ∷ [])
-  sext-same e = sym (sext-sum 0 (top-is-0 x (wa - 1) e) ∙ simp (zero-mul, zero-add))
-
-  pub sext-fill : (x / 2 ^ (wa - 1) ≡ 0 → ⊥) → bitOr x (bitXor (2 ^ wt - 1) (2 ^ wa - 1)) ≡ opSext .plain wt (wa ∷ []) 0 (x ∷ [])
-  sext-fill d =
-      ap (λ (n : ℕ). bitOr x (bitXor (2 ^ n - 1) (2 ^ wa - 1))) width-sum
-      ∙ ap (bitOr x) (ones-above (wt - wa) wa)
-      ∙ or-shifted-r (2 ^ (wt - wa) - 1) wa x l
-      ∙ sym (sext-sum 1 (top-is-1 x wa h l d) ∙ simp one-mul)
+  pub extended-word : (n t d : ℕ) → wt ≤ n → (d + t) % 2 ^ n ≡ bitXor x t → (signed : Bool) → t ≡ signPlace signed wa → bitAnd d (2 ^ wt - 1) ≡ countedAs signed wt wa x
+  extended-word n t d k e false f = unsigned-word n d k (subst (λ (y : ℕ). (d + y) % 2 ^ n ≡ bitXor x y) (f ∙ omega arith) e)
+  extended-word n t d k e true f = signed-word n d k (subst (λ (y : ℕ). (d + y) % 2 ^ n ≡ bitXor x y) (f ∙ omega arith) e)
 
 -- ---- ashr
 

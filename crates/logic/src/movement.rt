@@ -2,11 +2,14 @@
 // A plane is either word: it moves as an operand's number does, by the kind's plain number.
 use bits::width_mask;
 use vectors::Vector;
+ghost use mathlib.Core.Bool.{Bool};
 ghost use mathlib.Core.Path.{_≡_};
 ghost use mathlib.Core.List.{[], _∷_};
-ghost use Prim.Native.Nat.{_^_, _≤_, _<_};
+ghost use Prim.Native.Nat.{ℕ, _^_, _≤_, _<_};
 ghost use Rattle.bits.specs.Limits.{widthLimit};
 ghost use Rattle.vectors.specs.Row.{row};
+ghost use Rattle.operations.specs.Encoding.{signPlace};
+ghost use Rattle.operations.specs.Wide.{countedAs};
 ghost use Rattle.operations.specs.Result.{resultOf, Ready};
 ghost use Rattle.operations.specs.Bitwise.{opCopy};
 ghost use Rattle.operations.specs.Moves.{opShl, opLshr, opAshr, opRotl, opExtract, opConcat, opZext, opSext};
@@ -48,15 +51,21 @@ pub fn lshr(w: u32, ma: u32, va: u32, p: u32) -> Vector
     }
 }
 
+// A number of w bits extended to wt bits: t is the place of its sign, 2^(w-1), or 0 where it has none. The sign is turned and its place taken away, with no
+// branch on it.
+pub fn extended(wt: u32, t: u32, x: u32) -> u32
+    requires { ⌜ (1 ≤ wt) × (wt ≤ widthLimit) ⌝ }
+    ensures { λ r. ⌜ ((signed : Bool) (w : ℕ) → t ≡ signPlace signed w → 1 ≤ w → w ≤ wt → x < 2 ^ w → r ≡ countedAs signed wt w x) ⌝ }
+{
+    std::num::wrapping_sub_u32(x ^ t, t) & width_mask(wt)
+}
+
 // Copies of the top bit of x, which is bit wa - 1, above it.
 fn sext_plane(wt: u32, wa: u32, x: u32) -> u32
     requires { ⌜ (1 ≤ wa) × (wa ≤ wt) × (wt ≤ widthLimit) × (x < 2 ^ wa) ⌝ }
     ensures { λ r. ⌜ r ≡ opSext .plain wt (wa ∷ []) 0 (x ∷ []) ⌝ }
 {
-    if x >> (wa - 1) == 0 {
-        return x;
-    }
-    x | (width_mask(wt) ^ width_mask(wa))
+    extended(wt, 1u32 << (wa - 1), x)
 }
 
 // A shift by w or more gives copies of the top bit, as a shift by w - 1 does.

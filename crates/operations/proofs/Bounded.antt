@@ -16,7 +16,8 @@ use Rattle.bits.proofs.Bits.{digit-lt, number-below}
 use Rattle.bits.proofs.Bools.{T-left, T-right}
 use Rattle.vectors.specs.Lists.{All}
 use Rattle.vectors.proofs.Lists.{_⨾_}
-use Rattle.operations.specs.Kind.{asks, Kind, first, second, third}
+use Rattle.operations.specs.Kind.{asks, Kind, first, second, third, joinedWidths}
+use Rattle.operations.specs.Wide.{wideNumber}
 use Rattle.operations.specs.Kinds.{kinds, kindOf}
 use Rattle.operations.proofs.Lookup.{any-kind}
 use Rattle.operations.specs.Result.{Below}
@@ -60,6 +61,10 @@ both-below ws ns c wt t f = f (below-as ws ns c wt 0 (T-left (eqb wt (first ws))
 joined-below : (a b v w : ℕ) → a < 2 ^ v → b < 2 ^ w → a * 2 ^ w + b < 2 ^ (v + w)
 joined-below a b v w h g = subst (λ (m : ℕ). a * 2 ^ w + b < m) (sym (pow-add 2 v w)) (digits-lt h g)
 
+-- a product as wide as both operands
+wide-below : (sa sb : Bool) (wt p : ℕ) (ws ns : List ℕ) → T (asks joinedWidths wt ws p) → Below ws ns → wideNumber sa sb wt ws ns < 2 ^ wt
+wide-below sa sb wt p ws ns t c = mod-lt _ (pow-pos wt)
+
 -- ---- every kind, in the order of the list
 
 pub all-bounded : All Bounded kinds
@@ -87,6 +92,9 @@ all-bounded =
     ⨾ (λ wt p ws ns t c.
     digit-below (eqb (first ws) (second ws)) (ltb (first ns + 2 ^ first ws * bit (second ns) (first ws - 1)) (second ns + 2 ^ first ws * bit (first ns) (first ws - 1))) wt t)
     ⨾ (λ wt p ws ns t c. both-below ws ns c wt (T-left (eqb wt (first ws) && eqb wt (second ws)) _ t) (cond-below (eqb (third ns) 1) (first ns) (second ns) (2 ^ wt)))
+    ⨾ wide-below false false
+    ⨾ wide-below true true
+    ⨾ wide-below true false
     ⨾ tt
 
 -- the kind that a record's word names

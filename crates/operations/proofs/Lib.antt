@@ -8,10 +8,12 @@ pub mod Twice
 pub mod DoubledKinds
 pub mod Spelling
 pub mod SmtBits
+pub mod WideNumbers
 pub mod SmtNat
 pub mod SmtLogic
 pub mod SmtSums
 pub mod SmtMoves
+pub mod SmtWide
 pub mod SmtShifts
 pub mod SmtRotate
 pub mod SmtCompare

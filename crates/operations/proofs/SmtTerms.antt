@@ -24,6 +24,7 @@ use Rattle.operations.proofs.SmtLogic.{not-is, and-is, or-is, xor-is}
 use Rattle.operations.proofs.SmtSums.{add-is, sub-is, neg-is, mul-is}
 use Rattle.operations.proofs.SmtMoves.{extract-is, concat-is, zext-to, sext-to}
 use Rattle.operations.proofs.SmtShifts.{shl-is, lshr-is, ashr-is, wide-shl-is, wide-lshr-is, wide-ashr-is}
+use Rattle.operations.proofs.SmtWide.{wide-is}
 use Rattle.operations.proofs.SmtRotate.{rotl-is}
 use Rattle.operations.proofs.SmtCompare.{eq-is, ult-is, slt-is, ite-is}
 use Rattle.operations.proofs.SmtOperands.{by-operands, by-same, by-both, by-compared, chosen-widths}
@@ -73,6 +74,9 @@ terms-agree =
     (λ wt p w a h v b g u c k s.
     let e = chosen-widths wt w v u (s .fits) in
     Is-width (sym (e .0)) (ite-is h (Is-width (sym (e .1) ∙ e .0) g) (Is-width (e .2) k)))
+    ⨾ by-operands 2 _ refl (λ wt p w a h v b g s. wide-is false false (s .fits) (s .widths .0) (s .widths .1 .0) h g)
+    ⨾ by-operands 2 _ refl (λ wt p w a h v b g s. wide-is true true (s .fits) (s .widths .0) (s .widths .1 .0) h g)
+    ⨾ by-operands 2 _ refl (λ wt p w a h v b g s. wide-is true false (s .fits) (s .widths .0) (s .widths .1 .0) h g)
     ⨾ tt
 
 pub narrow-terms-agree : All Agrees narrowTerms

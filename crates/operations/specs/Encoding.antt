@@ -2,9 +2,12 @@
 --   useCode u    0 nothing, 1 a row, 2 a number
 --   ruleCode r   the width rules by number;   ruleNumbered n   back
 --   digitOf word n   digit n of a word, two bits to a digit
-use Prim.Native.Nat.{ℕ, _*_, _/_, _%_, _^_}
+--   signPlace signed w   the place of the sign of a number of w bits: 2^(w-1), or 0 where it is not signed
+use Prim.Native.Nat.{ℕ, _-_, _*_, _/_, _%_, _^_}
+use mathlib.Core.Bool.{Bool}
 use mathlib.Core.List.{[], _∷_}
 use lib.ListN.{getD}
+use Rattle.bits.specs.Bit.{digit}
 use Rattle.operations.specs.Kind.{Use, asRow, asNumber, unused, Rule, sameWidth, sameWidths, takenWidth, joinedWidths, extendedWidth, comparedWidths, chosenWidths}
 
 abbrev pub useCode : Use → ℕ
@@ -27,3 +30,6 @@ ruleNumbered n = getD (sameWidth ∷ sameWidths ∷ takenWidth ∷ joinedWidths 
 
 abbrev pub digitOf : ℕ → ℕ → ℕ
 digitOf word n = word / 2 ^ (n * 2) % 4
+
+abbrev pub signPlace : Bool → ℕ → ℕ
+signPlace signed w = digit signed * 2 ^ (w - 1)

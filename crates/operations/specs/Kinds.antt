@@ -1,4 +1,4 @@
--- All kinds, and the kind that has a number (01, "Records").
+-- All kinds, and the kind that has a number (01, "Records"; 02, request 4).
 --   kinds       the kinds, numbers rising;   kindCount   how many there are
 --   numbered n ks, find n ks   a kind of the list has the number n; the first that has it, else opNone
 --   isKind n    some kind has the number n
@@ -12,10 +12,11 @@ use Rattle.operations.specs.Kind.{unused, sameWidth, Kind}
 use Rattle.operations.specs.Bitwise.{opCopy, opNot, opAnd, opOr, opXor}
 use Rattle.operations.specs.Moves.{opShl, opLshr, opAshr, opRotl, opExtract, opConcat, opZext, opSext}
 use Rattle.operations.specs.Arithmetic.{opAdd, opSub, opNeg, opMul, opEq, opUlt, opSlt, opIte}
+use Rattle.operations.specs.Wide.{opUmulw, opSmulw, opSumulw}
 
 -- Whoever unfolds the list unfolds the kinds with it.
 unfoldable pub kinds : List Kind
-unfolding opCopy opNot opAnd opOr opXor opShl opLshr opAshr opRotl opExtract opConcat opZext opSext opAdd opSub opNeg opMul opEq opUlt opSlt opIte
+unfolding opCopy opNot opAnd opOr opXor opShl opLshr opAshr opRotl opExtract opConcat opZext opSext opAdd opSub opNeg opMul opEq opUlt opSlt opIte opUmulw opSmulw opSumulw
 kinds =
     opCopy
     ∷ opNot
@@ -38,6 +39,9 @@ kinds =
     ∷ opUlt
     ∷ opSlt
     ∷ opIte
+    ∷ opUmulw
+    ∷ opSmulw
+    ∷ opSumulw
     ∷ []
 
 unfoldable pub kindCount : ℕ

@@ -4,6 +4,7 @@ pub mod Kind
 pub mod Bitwise
 pub mod Moves
 pub mod Arithmetic
+pub mod Wide
 pub mod Kinds
 pub mod Encoding
 pub mod Record

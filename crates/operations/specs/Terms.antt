@@ -2,6 +2,7 @@
 --   Term             a kind, a term over the target's width, the parameter and the operand vectors, and the parameters that it serves
 --   always, fitsWidth   the parameters served: all; those below 2 to the power of the width
 --   low s r, amount s p   r cut to the width of s; an amount of five bits more than s
+--   widened signed wt s   s extended to wt bits: by sign_extend where it is signed, else by zero_extend
 --   terms            one term for each kind, for every parameter that the checks let pass
 --   narrowTerms      for the shifts the term whose amount has the operand's own width, where the amount fits it
 --   left vs, right vs, condition vs   the first, second and third operand vector
@@ -9,7 +10,7 @@
 --   Served m ..      the operands and the parameter passed the checks, and the term serves them
 --   Agrees m         whatever the widths, 1 and up, that the kind's rule allows, and whatever the operands, the plain number is the term's number
 use mathlib.Core.Path.{_≡_}
-use mathlib.Core.Bool.{Bool, true, not}
+use mathlib.Core.Bool.{Bool, true, false, not, cond}
 use mathlib.Core.List.{List, [], _∷_}
 use Prim.Native.Nat.{ℕ, _+_, _-_, _^_, _≤_}
 use lib.Dec.{T, ltb}
@@ -19,6 +20,7 @@ use Rattle.operations.specs.Kind.{asks, Kind, first}
 use Rattle.operations.specs.Bitwise.{opCopy, opNot, opAnd, opOr, opXor}
 use Rattle.operations.specs.Moves.{opShl, opLshr, opAshr, opRotl, opExtract, opConcat, opZext, opSext}
 use Rattle.operations.specs.Arithmetic.{opAdd, opSub, opNeg, opMul, opEq, opUlt, opSlt, opIte}
+use Rattle.operations.specs.Wide.{opUmulw, opSmulw, opSumulw}
 use Rattle.operations.specs.Record.{misused}
 use Rattle.operations.specs.Result.{Below, arity}
 use Rattle.operations.specs.Bitvector.{Bitvector, nat, bv, extract, concat}
@@ -50,6 +52,9 @@ low s r = extract (s .width - 1) 0 r
 abbrev pub amount : Bitvector → ℕ → Bitvector
 amount s p = bv (s .width + 5) p
 
+abbrev pub widened : Bool → ℕ → Bitvector → Bitvector
+widened signed wt s = cond signed (sign-extend (wt - s .width) s) (zero-extend (wt - s .width) s)
+
 unfoldable pub terms : List Term
 terms =
     record { kind = opCopy; serves = always; term = λ wt p vs. left vs }
@@ -73,6 +78,9 @@ terms =
     ∷ record { kind = opUlt; serves = always; term = λ wt p vs. bit1 (bvult (left vs) (right vs)) }
     ∷ record { kind = opSlt; serves = always; term = λ wt p vs. bit1 (bvslt (left vs) (right vs)) }
     ∷ record { kind = opIte; serves = always; term = λ wt p vs. bvite (bveq (condition vs) (bv 1 1)) (left vs) (right vs) }
+    ∷ record { kind = opUmulw; serves = always; term = λ wt p vs. bvmul (widened false wt (left vs)) (widened false wt (right vs)) }
+    ∷ record { kind = opSmulw; serves = always; term = λ wt p vs. bvmul (widened true wt (left vs)) (widened true wt (right vs)) }
+    ∷ record { kind = opSumulw; serves = always; term = λ wt p vs. bvmul (widened true wt (left vs)) (widened false wt (right vs)) }
     ∷ []
 
 abbrev pub fitsWidth : ℕ → ℕ → Bool

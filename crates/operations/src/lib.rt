@@ -21,30 +21,31 @@ pub struct Record {
 pub const RECORD_WORDS: usize = 5;
 
 // How many kinds there are.
-pub const KINDS: u32 = 21;
+pub const KINDS: u32 = 24;
 
 // What the word b is to each kind: 0 nothing, 1 a row, 2 a number.
-const SECOND: u64 = 0b01_01_01_01_01_00_01_01_00_00_01_00_00_00_00_00_01_01_01_00_00;
+const SECOND: u64 = 0b01_01_01_01_01_01_01_01_00_01_01_00_00_01_00_00_00_00_00_01_01_01_00_00;
 
 // The same of the word p.
-const PARAMETER: u64 = 0b01_00_00_00_00_00_00_00_00_00_00_10_10_10_10_10_00_00_00_00_00;
+const PARAMETER: u64 = 0b00_00_00_01_00_00_00_00_00_00_00_00_00_00_10_10_10_10_10_00_00_00_00_00;
 
 // Whether operands named twice are one number to each kind: 0 no, 1 yes.
-const CORRELATED: u64 = 0b01_01_01_01_00_00_01_01_00_00_01_00_00_00_00_00_01_01_01_00_00;
+const CORRELATED: u64 = 0b00_00_00_01_01_01_01_00_00_01_01_00_00_01_00_00_00_00_00_01_01_01_00_00;
 
 // The width rule of each kind, in two digits.
-const RULES: u64 = 0b10_01_01_01_01_00_01_01_00_00_11_10_00_00_00_00_01_01_01_00_00;
+const RULES: u64 = 0b11_11_11_10_01_01_01_01_00_01_01_00_00_11_10_00_00_00_00_01_01_01_00_00;
 
-const RULES_FOURS: u64 = 0b01_01_01_01_00_00_00_00_01_01_00_00_00_00_00_00_00_00_00_00_00;
+const RULES_FOURS: u64 = 0b00_00_00_01_01_01_01_00_00_00_00_01_01_00_00_00_00_00_00_00_00_00_00_00;
 
 // The length of each kind's name, in two digits.
-const LENGTHS: u64 = 0b11_11_11_10_11_11_11_11_00_00_10_11_00_00_00_11_11_10_11_11_00;
+const LENGTHS: u64 = 0b10_01_01_11_11_11_10_11_11_11_11_00_00_10_11_00_00_00_11_11_10_11_11_00;
 
-const LENGTHS_FOURS: u64 = 0b00_00_00_00_00_00_00_00_01_01_01_01_01_01_01_00_00_00_00_00_01;
+const LENGTHS_FOURS: u64 =
+    0b01_01_01_00_00_00_00_00_00_00_00_01_01_01_01_01_01_01_00_00_00_00_00_01;
 
 // The names, by kind, eight bytes to each.
 const NAMES: [u8; KINDS as usize * 8] =
-    *b"copy    not     and     or      xor     shl     lshr    ashr    rotl    extract concat  zext    sext    add     sub     neg     mul     eq      ult     slt     ite     ";
+    *b"copy    not     and     or      xor     shl     lshr    ashr    rotl    extract concat  zext    sext    add     sub     neg     mul     eq      ult     slt     ite     umulw   smulw   sumulw  ";
 
 // Whether there is a kind of that number.
 pub fn is_kind(kind: u32) -> bool

@@ -1,8 +1,8 @@
-// Kinds, widths and parameters that fit together (01, "Records").
+// Kinds, widths and parameters that fit together (01, "Records"; 02, request 4).
 ghost use Rattle.oracle.specs.Sizes.{Sized};
 
 // How many kinds there are.
-pub const KINDS: u64 = 21;
+pub const KINDS: u64 = 24;
 
 // A record's kind and parameter, and the widths of the target, the first and the second operand.
 pub struct Shape {
@@ -16,14 +16,17 @@ pub struct Shape {
 // Whether the kind uses a second operand.
 pub fn uses_second(kind: u64) -> bool {
     match kind {
-        2..=4 | 10 | 13..=14 | 16..=20 => true,
+        2..=4 | 10 | 13..=14 | 16..=23 => true,
         _ => false,
     }
 }
 
-// Whether both operands are one number where they are one row (02, request 2): wherever there are two, but for mul.
+// Whether both operands are one number where they are one row (02, requests 2 and 4): wherever there are two, but for mul and the wide products.
 pub fn one_number(kind: u64) -> bool {
-    uses_second(kind) && kind != 16
+    match kind {
+        16 | 21..=23 => false,
+        _ => uses_second(kind),
+    }
 }
 
 // Whether the kind uses a condition, row 2.
@@ -39,7 +42,7 @@ fn widths_fit(s: Shape) -> bool
     match kind {
         2..=4 | 13..=14 | 16 | 20 => s.wt == s.wa && s.wb == s.wa,
         9 => s.p + s.wt <= s.wa && s.wb == 1,
-        10 => s.wt == s.wa + s.wb,
+        10 | 21..=23 => s.wt == s.wa + s.wb,
         11 | 12 => s.wt >= s.wa && s.wb == 1,
         17..=19 => s.wt == 1 && s.wb == s.wa,
         _ => s.wt == s.wa && s.wb == 1,

@@ -1,20 +1,25 @@
 -- The two planes of a product. Assumes nothing.
 --   mask-bit-of   an answer's mask bit is the vector's
+--   formed-of     the operands that the checks let pass
 --   planes-known  the planes of known operands' product
 --   planes-of     the planes from the unknown columns and the values' product, cut to the width
 use mathlib.Core.Path.{_≡_, sym, ap, ap₂, subst, _∙_}
 use mathlib.Core.Logic.{inl, inr}
+use mathlib.Core.List.{[], _∷_}
 use Prim.Native.Nat.{ℕ, _-_, _*_, _%_, _^_, _≤_, _<_}
 use native.Mathlib.Nat.{lt-of-le-of-lt, mod-eq-of-lt}
 use native.Mathlib.Omega.{arith}
 use lib.Pow.{pow-mono}
 use lib.Bits.{bitAnd, bitOr, and-zero-l, and-comm, and-le-r, and-mask, mask-lt}
+use Rattle.bits.specs.Limits.{widthLimit}
 use Rattle.bits.specs.Bit.{bit}
 use Rattle.bits.proofs.Bits.{bit-lt, bit-cases, bit-and, bit-ext}
 use Rattle.bits.proofs.Constants.{bit-complement, bit-ones}
 use Rattle.bits.proofs.Shifts.{bit-mod}
 use Rattle.vectors.specs.declared.OutputBit.{OutputBit}
 use Rattle.vectors.specs.Row.{Row, row}
+use Rattle.operations.specs.Arithmetic.{opMul}
+use Rattle.operations.specs.Result.{Ready}
 use Rattle.columns.specs.Formed.{Formed}
 use Rattle.columns.specs.Settled.{productOf}
 use Rattle.columns.proofs.ProductMask.{product-formed, product-width, product-below, product-value}
@@ -72,6 +77,10 @@ module _ (w ma va mb vb r p : ℕ) (F : Formed w ma va mb vb) (hr : r < 2 ^ 32) 
   planes-of ones f =
       ap (λ (x : ℕ). row w (bitAnd r x) (bitAnd p (bitAnd (2 ^ 32 - 1 - r) x))) f
       ∙ (λ ι. record { width = sym (product-width w ma va mb vb) ι; mask = masks ι; value = values ι })
+
+-- the operands that the checks let pass
+pub formed-of : {w ma va mb vb : ℕ} → w ≤ widthLimit → Ready opMul w 0 (row w ma va ∷ row w mb vb ∷ []) → Formed w ma va mb vb
+formed-of l R = record { most = l; first = R .formed .0; second = R .formed .1 .0 }
 
 pub planes-known : (w ma va mb vb p ones : ℕ) → Formed w ma va mb vb → p ≡ va * vb % 2 ^ 32 → ones ≡ 2 ^ w - 1 → bitOr ma mb ≡ 0
     → row w 0 (bitAnd p ones) ≡ productOf w ma va mb vb

@@ -7,6 +7,7 @@ ghost use Rattle.bits.specs.Limits.{widthLimit};
 ghost use Rattle.bits.specs.Bit.{bit};
 ghost use Rattle.bits.specs.Four.{reversedWords};
 ghost use Rattle.vectors.specs.Row.{row, WellFormed};
+ghost use Rattle.vectors.specs.Packed.{packedRow};
 ghost use Rattle.operations.specs.Arithmetic.{opMul};
 ghost use Rattle.operations.specs.Result.{resultOf, Ready};
 ghost use Rattle.columns.specs.Formed.{Formed};
@@ -30,6 +31,8 @@ use factors::settle;
 use factors::with_pair;
 use vectors::OutputBit;
 use vectors::Vector;
+use vectors::pack;
+use vectors::unpack;
 
 mod column_sums; // column_sums.rt: column sums, held as i64
 mod factors; // factors.rt: the factors at which the column sum is least and greatest
@@ -140,21 +143,46 @@ fn unknown_below(w: u32, ma: u32, va: u32, mb: u32, vb: u32) -> u32
     seen | unknown_open(unsettled, ma, va, mb, vb)
 }
 
-// The product's vector: where no two choices disagree, the bit is that of the values' product.
+// The product's vector, packed: where no two choices disagree, the bit is that of the values' product. It is called at two places, and so stays a function
+// of its own: what calls it is small where it is inlined.
+fn packed_unknown(w: u32, ma: u32, va: u32, mb: u32, vb: u32) -> u64
+    requires { ⌜ (1 ≤ w) × Formed w ma va mb vb ⌝ }
+    ensures { λ r. ⌜ packedRow w r ≡ productOf w ma va mb vb ⌝ }
+{
+    let ones = width_mask(w);
+    let unknown = unknown_below(w, ma, va, mb, vb);
+    pack(Vector {
+        mask: unknown & ones,
+        value: product(va, vb) & (!unknown & ones),
+    })
+}
+
+// The same, with known operands told apart.
+fn packed_product(w: u32, ma: u32, va: u32, mb: u32, vb: u32) -> u64
+    requires { ⌜ (1 ≤ w) × Formed w ma va mb vb ⌝ }
+    ensures { λ r. ⌜ packedRow w r ≡ productOf w ma va mb vb ⌝ }
+{
+    if ma | mb == 0 {
+        return pack(Vector {
+            mask: 0,
+            value: product(va, vb) & width_mask(w),
+        });
+    }
+    packed_unknown(w, ma, va, mb, vb)
+}
+
+// The product's vector.
 pub fn mul(w: u32, ma: u32, va: u32, mb: u32, vb: u32) -> Vector
     requires { ⌜ (w ≤ widthLimit) × Ready opMul w 0 (row w ma va ∷ row w mb vb ∷ []) ⌝ }
     ensures { λ r. ⌜ row w (r .mask) (r .value) ≡ resultOf opMul w 0 (row w ma va ∷ row w mb vb ∷ []) ⌝ }
 {
-    if ma | mb == 0 {
-        return Vector {
-            mask: 0,
-            value: product(va, vb) & width_mask(w),
-        };
-    }
-    let ones = width_mask(w);
-    let unknown = unknown_below(w, ma, va, mb, vb);
-    Vector {
-        mask: unknown & ones,
-        value: product(va, vb) & (!unknown & ones),
-    }
+    unpack(packed_product(w, ma, va, mb, vb))
+}
+
+// The same, for a caller that knows some bit to be unknown.
+pub fn mul_unknown(w: u32, ma: u32, va: u32, mb: u32, vb: u32) -> Vector
+    requires { ⌜ (w ≤ widthLimit) × Ready opMul w 0 (row w ma va ∷ row w mb vb ∷ []) ⌝ }
+    ensures { λ r. ⌜ row w (r .mask) (r .value) ≡ resultOf opMul w 0 (row w ma va ∷ row w mb vb ∷ []) ⌝ }
+{
+    unpack(packed_unknown(w, ma, va, mb, vb))
 }

@@ -10,7 +10,7 @@ use Rattle.operations.specs.Arithmetic.{opAdd, opSub, opNeg}
 use Rattle.operations.specs.Result.{resultOf, Ready}
 use Rattle.sums.proofs.Complements.{top-complement}
 use Rattle.bits.proofs.Words.{cut-twice}
-use Rattle.sums.proofs.Cuts.{sub-cut}
+use Rattle.bits.proofs.Words.{sub-cut}
 use Rattle.sums.proofs.AsSums.{add-sum, sub-sum, neg-sum}
 use Rattle.sums.proofs.Kernels.{made-best}
 

@@ -1,4 +1,4 @@
-// The unstarred examples that need no text (01, "Worked examples"; 02, request 2).
+// The unstarred examples that need no text (01, "Worked examples"; 02, requests 2 and 4).
 use crate::Rows;
 use crate::answers;
 use crate::counting::Tally;
@@ -49,18 +49,18 @@ fn ashr_by_most() -> Tally {
     gives(7, 2, 31, row(0b10, 0b00), row(0, 0), row(0b11, 0b00), 0)
 }
 
-// Parameter 32: refusal 8, and the rows stay.
-fn parameter_over(kind: u64) -> Tally {
+// Width 3 and this parameter: refused with this number, and the rows stay.
+fn refused(kind: u64, p: u64, number: u32) -> Tally {
     let target = row(0b100, 0b010);
-    gives(kind, 3, 32, row(0b010, 0b001), target, target, 8)
+    gives(kind, 3, p, row(0b010, 0b001), target, target, number)
 }
 
-// Parameter 32 for each shift, rotation and extract.
+// Parameter 32 for each shift, rotation and extract: refusal 8.
 fn parameters_over() -> Tally {
     let mut tally = none();
     let mut kind: u64 = 5;
     while kind <= 9 {
-        tally = joined(tally, parameter_over(kind));
+        tally = joined(tally, refused(kind, 32, 8));
         kind += 1;
     }
     tally
@@ -86,6 +86,16 @@ fn with_its_condition(a: Row, b: Row, condition: u64) -> Tally {
     one(makes(s, 1, before, after, 0))
 }
 
+// A wide product with a parameter: refusal 8. With a target as wide as one operand alone: refusal 9.
+fn wide_refused(kind: u64) -> Tally {
+    joined(refused(kind, 1, 8), refused(kind, 0, 9))
+}
+
+// The first kind that is unknown: refusal 6.
+fn kind_over() -> Tally {
+    refused(24, 0, 6)
+}
+
 // 256 rows accepted.
 fn most_rows() -> Tally {
     let width = [1u8; 256];
@@ -104,5 +114,9 @@ pub fn examples() -> Tally {
     tally = joined(tally, joined(with_itself(4), with_itself(14)));
     tally = joined(tally, with_its_condition(row(1, 0), row(0, 1), 0));
     tally = joined(tally, with_its_condition(row(0, 0), row(1, 0), 1));
+    tally = joined(tally, wide_refused(21));
+    tally = joined(tally, wide_refused(22));
+    tally = joined(tally, wide_refused(23));
+    tally = joined(tally, kind_over());
     joined(tally, most_rows())
 }

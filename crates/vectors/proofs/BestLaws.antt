@@ -13,7 +13,7 @@ use Rattle.vectors.specs.Best.{best, Exact}
 use Rattle.vectors.specs.Hull.{Hull, Results}
 use Rattle.vectors.proofs.Choices.{some-chosen, chosen-inside}
 use Rattle.vectors.proofs.Hulls.{hull-covers, hull-all, hull-least, hull-mono, hull-row, hull-iff}
-use Rattle.vectors.proofs.Bests.{ByBits, best-by-bits, best-hull, best-of-hull, some-result, best-from-bits}
+use Rattle.vectors.proofs.Bests.{best-hull, best-of-hull, some-result, best-from-bits}
 
 module _ (w : ℕ) (f : List ℕ → ℕ) (rows : List Row) where
   result : (ns : List ℕ) → Chosen rows ns → Results f rows (f ns)
@@ -51,21 +51,20 @@ best-mono w f ps qs F I =
     hull-mono w (Results f ps) (Results f qs) (best w f ps) (best w f qs) (some-result f ps F)
     (λ n s. record { numbers = s .numbers; chosen = chosen-inside ps qs (s .numbers) I (s .chosen); gives = s .gives }) (best-hull w f ps) (best-hull w f qs)
 
+-- where the choices of two lists of rows give the same results, their best results are one
+pub best-carried : (w : ℕ) (f g : List ℕ → ℕ) (ps qs : List Row) → All WellFormed qs
+    → ((ns : List ℕ) → Chosen ps ns → Results g qs (f ns)) → ((ns : List ℕ) → Chosen qs ns → Results f ps (g ns)) → best w f ps ≡ best w g qs
+best-carried w f g ps qs F there back =
+    best-of-hull w g qs (best w f ps) F
+    (hull-iff w (Results f ps) (Results g qs) (best w f ps) (carried f g ps qs there) (carried g f qs ps back) (best-hull w f ps))
+  where
+    carried : (f g : List ℕ → ℕ) (ps qs : List Row) → ((ns : List ℕ) → Chosen ps ns → Results g qs (f ns)) → (n : ℕ) → Results f ps n → Results g qs n
+    carried f g ps qs h n r = let s = h (r .numbers) (r .chosen) in record { numbers = s .numbers; chosen = s .chosen; gives = s .gives ∙ r .gives }
+
 -- functions that agree on all choices give one result
 pub best-ext : (w : ℕ) (f g : List ℕ → ℕ) (rows : List Row) → All WellFormed rows → ((ns : List ℕ) → Chosen rows ns → f ns ≡ g ns) → best w f rows ≡ best w g rows
 best-ext w f g rows F e =
-    best-from-bits F (record {
-      width-is = B .width-is;
-      formed = B .formed;
-      unknown = λ k h z. let (p, q) = B .unknown k h z in (
-        record { numbers = p .numbers; chosen = p .chosen; gives = ap (λ (x : ℕ). bit x k) (sym (e (p .numbers) (p .chosen))) ∙ p .gives },
-        record { numbers = q .numbers; chosen = q .chosen; gives = ap (λ (x : ℕ). bit x k) (sym (e (q .numbers) (q .chosen))) ∙ q .gives },
-      );
-      known = λ k h z ns c. ap (λ (x : ℕ). bit x k) (sym (e ns c)) ∙ B .known k h z ns c;
-    })
-  where
-    B : ByBits w f rows (best w f rows)
-    B = best-by-bits w f rows
+    best-carried w f g rows rows F (λ ns c. record { numbers = ns; chosen = c; gives = sym (e ns c) }) (λ ns c. record { numbers = ns; chosen = c; gives = e ns c })
 
 -- a function that gives one number on all choices gives that number, with an empty mask
 pub best-constant : (w : ℕ) (f : List ℕ → ℕ) (rows : List Row) (n : ℕ) → All WellFormed rows → n < 2 ^ w → ((ns : List ℕ) → Chosen rows ns → f ns ≡ n) → best w f rows ≡ row w 0 n

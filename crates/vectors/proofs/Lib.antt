@@ -7,3 +7,4 @@ pub mod Hulls
 pub mod Joins
 pub mod Bests
 pub mod BestLaws
+pub mod Apart

@@ -1,6 +1,7 @@
 -- The definitions of `vectors`.
 pub mod Lists
 pub mod Row
+pub mod Packed
 pub mod Choice
 pub mod Best
 pub mod Hull

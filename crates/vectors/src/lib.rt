@@ -1,4 +1,6 @@
 // What kernels exchange: a vector's two planes, and one output bit.
+ghost use mathlib.Core.Path.{_≡_};
+ghost use Prim.Native.Nat.{_/_, _%_, _^_};
 
 // Mask and value of a vector; the width stands beside it.
 pub struct Vector {
@@ -11,4 +13,21 @@ pub enum OutputBit {
     Zero,
     One,
     Unknown,
+}
+
+// A vector as one word: a function hands a word over in a register, a vector through memory.
+pub fn pack(v: Vector) -> u64
+    ensures { λ r. ⌜ (r % 2 ^ 32 ≡ v .mask) × (r / 2 ^ 32 ≡ v .value) ⌝ }
+{
+    (v.mask as u64) + (v.value as u64) * 4294967296
+}
+
+// The vector of such a word.
+pub fn unpack(r: u64) -> Vector
+    ensures { λ v. ⌜ (v .mask ≡ r % 2 ^ 32) × (v .value ≡ r / 2 ^ 32) ⌝ }
+{
+    Vector {
+        mask: (r % 4294967296) as u32,
+        value: (r / 4294967296) as u32,
+    }
 }

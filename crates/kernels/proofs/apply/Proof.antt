@@ -1,11 +1,14 @@
 -- `kernels::apply` meets its contract: in each arm what the kernel asks for, then what it gives, under the names of the dispatch. Assumes nothing.
 use mathlib.Core.Path.{_≡_, ap, _∙_}
-use Prim.Native.Nat.{ℕ, _-_}
+use mathlib.Core.Bool.{Bool}
+use Prim.Native.Nat.{ℕ, _-_, _≤_}
 use native.Mathlib.Omega.{arith}
+use Rattle.bits.specs.Limits.{widthLimit}
 use Rattle.vectors.specs.Row.{row}
 use Rattle.vectors.specs.declared.Vector.{Vector}
 use Rattle.operations.specs.Kinds.{kindCount}
 use Rattle.operations.proofs.Lookup.{kind-below}
+use Rattle.wide_products.specs.Apart.{Factor}
 use Rattle.kernels.proofs.Dispatch.{Given, Excluded, zero-left}
 use Rattle.kernels.proofs.KindDispatch as of
 use Rattle.kernels.proofs.apply.Statement.{statement}
@@ -33,6 +36,10 @@ given s =
 at-width : (w : ℕ) (v : Vector) → w ≡ 1 → row w (v .mask) (v .value) ≡ row 1 (v .mask) (v .value)
 at-width w v e = ap (λ (x : ℕ). row x (v .mask) (v .value)) e
 
+-- what the kernel of the wide products asks for
+wide-asks : (s : tie.Start) {sa sb : Bool} → of.WideArm (given s) sa sb → (s .args .wt ≤ widthLimit) × Factor (s .args .wt) (given s .ra) × Factor (s .args .wt) (given s .rb)
+wide-asks s A = (s .pre .1, A .first, A .second)
+
 pub apply-spec : {M : Type 1} → statement M
 unfolding kindCount
 apply-spec =
@@ -58,6 +65,9 @@ apply-spec =
     (λ c κs. (c .before .pre .2, of.arm-ult (given (c .before)) (c .match .keys18) .1 .asks))
     (λ c κs. (c .before .pre .2, of.arm-slt (given (c .before)) (c .match .keys19) .1 .asks))
     (λ c κs. (c .before .pre .1, of.arm-ite (given (c .before)) (c .match .keys20) .asks))
+    (λ c κs. wide-asks (c .before) (of.arm-umulw (given (c .before)) (c .match .keys21)))
+    (λ c κs. wide-asks (c .before) (of.arm-smulw (given (c .before)) (c .match .keys22)))
+    (λ c κs. wide-asks (c .before) (of.arm-sumulw (given (c .before)) (c .match .keys23)))
     (λ c κs. (c .before .pre .1, of.arm-copy (given (c .before)) (copy-left (c .before) (c .match .rest)) .asks))
     (λ c. c .not .ensures ∙ of.arm-not (given (c .before .before)) (c .before .match .keys1) .gives)
     (λ c. c .and .ensures ∙ of.arm-and (given (c .before .before)) (c .before .match .keys2) .gives)
@@ -79,4 +89,7 @@ apply-spec =
     (λ c. let (w, A) = of.arm-ult (given (c .before .before)) (c .before .match .keys18) in at-width (c .before .before .args .wt) (c .ult .result) w ∙ c .ult .ensures ∙ A .gives)
     (λ c. let (w, A) = of.arm-slt (given (c .before .before)) (c .before .match .keys19) in at-width (c .before .before .args .wt) (c .slt .result) w ∙ c .slt .ensures ∙ A .gives)
     (λ c. c .ite .ensures ∙ of.arm-ite (given (c .before .before)) (c .before .match .keys20) .gives)
+    (λ c. c .wide-product .ensures ∙ of.arm-umulw (given (c .before .before)) (c .before .match .keys21) .gives)
+    (λ c. c .wide-product2 .ensures ∙ of.arm-smulw (given (c .before .before)) (c .before .match .keys22) .gives)
+    (λ c. c .wide-product3 .ensures ∙ of.arm-sumulw (given (c .before .before)) (c .before .match .keys23) .gives)
     (λ c. c .copy .ensures ∙ of.arm-copy (given (c .before .before)) (copy-left (c .before .before) (c .before .match .rest)) .gives))

@@ -1,0 +1,5 @@
+-- The laws and proofs of `wide_products`.
+pub mod Extensions
+pub mod SignCases
+pub mod WideBest
+pub mod Kernel

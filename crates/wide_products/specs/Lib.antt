@@ -1,0 +1,2 @@
+-- The definitions of `wide_products`.
+pub mod Apart
