@@ -7,30 +7,26 @@
 --   left-is, apart-is  both branches of the code are `bySign`
 use mathlib.Core.Path.{_≡_, refl, sym, ap, ap₂, _∙_, subst}
 use mathlib.Core.Bool.{Bool, true, false, cond}
-use mathlib.Core.Logic.{inl, inr}
 use mathlib.Core.List.{List, [], _∷_}
-use Prim.Native.Nat.{ℕ, _+_, _-_, _*_, _%_, _^_, _≤_, _<_, min}
+use Prim.Native.Nat.{ℕ, _+_, _-_, _*_, _%_, _^_, _≤_, _<_}
 use native.Mathlib.Nat.{le-trans, one-mul}
-use native.Mathlib.Decide.{ℕ-discrete}
 use native.Mathlib.Omega.{arith}
 use lib.Dec.{T, eqb, eqb→eq, eqb-refl}
-use lib.Bits.{bitAnd, bitOr, bitXor, or-lt, and-zero-r, or-shifted-r, xor-self}
+use lib.Bits.{bitAnd, bitOr, bitXor, or-lt, or-shifted-r, xor-self}
 use lib.Pow.{pow-lt}
-use Rattle.bits.specs.Bit.{bit, digit}
-use Rattle.bits.proofs.Bits.{bit-cases, bit-and, bit-above, bit-of-zero}
+use Rattle.bits.specs.Bit.{bit}
+use Rattle.bits.proofs.Bits.{bit-of-zero}
 use Rattle.bits.proofs.Bools.{T-and}
-use Rattle.bits.proofs.Constants.{bit-pow, bit-pow-other}
-use Rattle.bits.proofs.Numbers.{isSet-true, isSet-false, zero-of-bits}
 use Rattle.vectors.specs.Row.{Row, row, WellFormed}
 use Rattle.vectors.specs.Hull.{join}
 use Rattle.logic.proofs.Planes.{turned-top}
 use Rattle.operations.specs.Arithmetic.{opMul}
-use Rattle.operations.specs.Encoding.{signPlace}
 use Rattle.operations.specs.Wide.{countedAs, wideKind}
 use Rattle.operations.specs.Result.{Ready}
 use Rattle.wide_products.specs.Apart.{Factor, Operand, signUnknown, signAs, extendedRow, bySign, byOperand}
 use Rattle.wide_products.proofs.Extensions.{extended-formed}
 use Rattle.wide_products.proofs.SignCases.{sign-is-unknown, value-room, signAs-factor}
+use Rattle.wide_products.proofs.SignPlaces.{counted-small, unknown-place, place-known, place-unknown}
 
 pub wide-factors : (n : ℕ) (name : List ℕ) (sa sb : Bool) (wt p : ℕ) (ra rb : Row) → Ready (wideKind n name sa sb) wt p (ra ∷ rb ∷ []) → Factor wt ra × Factor wt rb
 wide-factors n name sa sb wt p ra rb R =
@@ -63,48 +59,7 @@ mul-ready wt m x n y l F G =
 pub sign-none : (signed : Bool) (r : Row) → r .mask ≡ 0 → T (signUnknown signed r) → ⊥
 sign-none signed r e u = let b = sign-is-unknown signed r u in let z = ap (λ (m : ℕ). bit m (r .width - 1)) e ∙ bit-of-zero (r .width - 1) in omega arith
 
--- ---- an operand, and the place of its sign
-
--- a number without its sign counts as itself
-counted-small : (signed : Bool) (wt w n : ℕ) → n < 2 ^ (w - 1) → countedAs signed wt w n ≡ n
-unfolding countedAs
-counted-small false wt w n h = omega arith
-counted-small true wt w n h =
-    ap (λ (b : Bool). n + digit b * (2 ^ wt - 2 ^ w)) (isSet-false n (w - 1) (bit-above (w - 1) n (w - 1) h (omega arith))) ∙ omega arith
-
--- a sign that is unknown has a place, which the mask has
-unknown-place : (signed : Bool) (r : Row) → T (signUnknown signed r) → signPlace signed (r .width) ≡ 2 ^ (r .width - 1)
-unfolding signUnknown
-unknown-place true r u = one-mul (2 ^ (r .width - 1))
-unknown-place false r u = absurd u
-
--- where the mask does not have it, the sign is not unknown, and else it is
-place-known : (signed : Bool) (r : Row) → bitAnd (r .mask) (signPlace signed (r .width)) ≡ 0 → T (signUnknown signed r) → ⊥
-place-known signed r e u =
-    let k = r .width - 1 in
-    let b = sign-is-unknown signed r u in
-    let z = sym (bit-and (r .mask) (signPlace signed (r .width)) k) ∙ ap (λ (x : ℕ). bit x k) e ∙ bit-of-zero k in
-    let o = ap (λ (x : ℕ). bit x k) (unknown-place signed r u) ∙ bit-pow k in
-    omega arith
-
-no-common : (m k : ℕ) → bit m k ≡ 0 → bitAnd m (1 * 2 ^ k) ≡ 0
-no-common m k e = zero-of-bits _ (λ j. bit-and m (1 * 2 ^ k) j ∙ at j)
-  where
-    at : (j : ℕ) → min (bit m j) (bit (1 * 2 ^ k) j) ≡ 0
-    at j =
-        elim (ℕ-discrete j k) [
-          | yes y ↦ let z = ap (bit m) y in omega arith
-          | no y ↦ let z = ap (λ (x : ℕ). bit x j) (one-mul (2 ^ k)) ∙ bit-pow-other k j y in omega arith
-        ]
-
-place-unknown : (signed : Bool) (r : Row) → (bitAnd (r .mask) (signPlace signed (r .width)) ≡ 0 → ⊥) → T (signUnknown signed r)
-unfolding signUnknown
-place-unknown false r d = absurd (d (ap (bitAnd (r .mask)) (omega arith) ∙ and-zero-r (r .mask)))
-place-unknown true r d =
-    elim (bit-cases (r .mask) (r .width - 1)) [
-      | inl e ↦ absurd (d (no-common (r .mask) (r .width - 1) e))
-      | inr e ↦ rw (isSet-true (r .mask) (r .width - 1) e) tt
-    ]
+-- ---- an operand as the code holds it
 
 module _ (wt t m x : ℕ) (O : Operand wt t m x) where
   abbrev w : ℕ

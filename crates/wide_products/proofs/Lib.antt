@@ -2,4 +2,5 @@
 pub mod Extensions
 pub mod SignCases
 pub mod WideBest
+pub mod SignPlaces
 pub mod Kernel
