@@ -1,4 +1,4 @@
-// The kernels of umulw, smulw and sumulw, of 16 by 16 bits, against kernel_mul of 32 bits: on the extended operands where both top bits
+// The kernel of umulw, smulw and sumulw, of 16 by 16 bits, against kernel_mul of 32 bits: on the extended operands where both top bits
 // are known, and on the four pairs that smulw takes its operands apart into where both are unknown. All results are compared, with an
 // enumeration too where few bits are unknown; then all calls are timed, and the goals are judged.
 #include "goals.h"
@@ -37,11 +37,11 @@ Planes draw_operand(std::mt19937 &random, unsigned unknown, bool unknown_top)
     return v;
 }
 
-// A trial for each kernel and each number of unknown bits, all kernels on the same pairs.
-std::vector<Trial> draw_trials(const std::vector<Wide> &kernels, bool unknown_tops)
+// A trial for each kind and each number of unknown bits, all kinds on the same pairs.
+std::vector<Trial> draw_trials(const std::vector<Wide> &kinds, bool unknown_tops)
 {
     std::vector<Trial> trials;
-    for (const Wide &wide : kernels) {
+    for (const Wide &wide : kinds) {
         std::mt19937 random(SEED);
         auto draw = [&](unsigned unknown) { return draw_operand(random, unknown, unknown_tops); };
         for (unsigned unknown : counts)

@@ -1,4 +1,4 @@
-// The kernels of umulw, smulw and sumulw on operands of 16 bits, and what their results are compared with: an enumeration, and
+// The kernel of umulw, smulw and sumulw on operands of 16 bits, and what its results are compared with: an enumeration, and
 // kernel_mul on operands that are extended to 32 bits.
 #ifndef WIDE_H
 #define WIDE_H
@@ -8,7 +8,7 @@
 
 inline constexpr uint32_t HALF = WIDTH / 2, TOP = uint32_t{1} << (HALF - 1);
 
-// A wide kernel: which operands it takes as signed, it and the enumeration in the form of an operation, and its passes.
+// A kind of wide product: which operands it takes as signed, the kernel and the enumeration in the form of an operation, and its passes.
 struct Wide {
     const char *name;
     bool signed_a, signed_b;
@@ -16,7 +16,7 @@ struct Wide {
     Pass (*pass)(const Inputs &inputs);
 };
 
-// What a wide kernel is given, and what kernel_mul is: for each pair one pair, or the four that it is taken apart into.
+// What the wide kernel is given, and what kernel_mul is: for each pair one pair, or the four that it is taken apart into.
 struct Trial {
     Wide wide;
     Inputs inputs, mul;
