@@ -1,21 +1,12 @@
-// The text of a table with the most rows and records: the time of rifflerleek_size and of rifflerleek_write.
+// The text of a table with the most rows and records: the time of rifflerleek_size, of rifflerleek_write, and of rifflerleek_read, of the
+// text and of the same table as a listing of edition 2. Fails if size and write differ, or if a text is not read as the table.
 #include "goals.h"
-#include "tables.h"
+#include "texts.h"
 
 namespace {
 
-const Groups all_rows = {{32, 0, 200}, {16, 200, 28}, {1, 228, 28}};
-const Plan largest = {"every kind, mixed", all_rows, true, false, 0, KINDS};
-constexpr std::size_t LINES = RIFFLERLEEK_ROW_LIMIT + RECORDS;
-
-std::size_t result_of(const char *call, rifflerleek_answer a)
-{
-    if (a.refusal != RIFFLERLEEK_DONE) {
-        std::printf("%s: refusal %u\n", call, a.refusal);
-        std::exit(1);
-    }
-    return a.result;
-}
+constexpr Goal size_goal = {"size of the largest table takes less time than write of it", 1, false};
+constexpr Goal listing_goal = {"a listing of edition 2 reads in at most 1.5 times the time of the text", 1.5, false};
 
 std::size_t size_of(const Table &t)
 {
@@ -24,33 +15,44 @@ std::size_t size_of(const Table &t)
                                               t.words.data(), t.words.size()));
 }
 
-std::size_t write_of(const Table &t, std::vector<uint8_t> &out)
+// Whether a text is read as the table, and that is written as the right text. Says so where not.
+bool comes_back(const char *name, const Bytes &text, const Table &t, const Bytes &right)
 {
-    std::size_t rows = t.width.size();
-    return result_of("write", rifflerleek_write(t.width.data(), rows, t.lock.data(), rows, t.mask.data(), rows, t.value.data(), rows,
-                                                t.words.data(), t.words.size(), out.data(), out.size()));
+    Table r = table_of(rifflerleek_read, text, t);
+    if (same(r, t) && text_of(rifflerleek_write, r) == right)
+        return true;
+    std::printf("the %s is not read as the table that was written\n", name);
+    return false;
 }
 
-Line line_of(const char *call, std::size_t bytes, double time)
+Line line_of(const char *call, std::size_t lines, std::size_t bytes, double time)
 {
-    return {call, std::to_string(LINES), std::to_string(bytes), figure(time), figure(time / LINES)};
+    return {call, std::to_string(lines), std::to_string(bytes), figure(time), figure(time / static_cast<double>(lines)), figure(rate(bytes, time))};
 }
 
 } // namespace
 
 int main()
 {
-    std::mt19937 random(SEED);
-    Table t = draw_table(random, largest);
-    std::size_t bytes = size_of(t);
-    std::vector<uint8_t> out(bytes);
-    if (write_of(t, out) != bytes) {
+    const Table t = draw_largest(KINDS);
+    const Bytes text = text_of(rifflerleek_write, t), listing = listing_of(text);
+    if (size_of(t) != text.size()) {
         std::printf("size and write differ\n");
         return 1;
     }
-    std::vector<double> times = measure({[&] { size_of(t); }, [&] { write_of(t, out); }});
-    print_markdown({{"call", "lines", "bytes", "ns", "ns a line"}, line_of("size", bytes, times[0]), line_of("write", bytes, times[1])});
+    if (!comes_back("text", text, t, text) || !comes_back("listing", listing, t, text))
+        return 1;
+    Bytes out(text.size());
+    Table r = t;
+    std::vector<double> times = measure({[&] { size_of(t); }, [&] { write_text(rifflerleek_write, t, out); },
+                                         [&] { read_text(rifflerleek_read, text, r); }, [&] { read_text(rifflerleek_read, listing, r); }});
+    print_markdown({{"call", "lines", "bytes", "ns", "ns a line", "million bytes a second"},
+                    line_of("size", LINES, text.size(), times[0]),
+                    line_of("write", LINES, text.size(), times[1]),
+                    line_of("read", LINES, text.size(), times[2]),
+                    line_of("read of a listing", LINES + 1, listing.size(), times[3])});
     std::printf("\n");
-    print_verdict({"size of the largest table takes less time than write of it", 1, false}, {{"size / write", times[0] / times[1]}});
+    print_verdict(size_goal, {{"size / write", times[0] / times[1]}});
+    print_verdict(listing_goal, {{"read of a listing / read", times[3] / times[2]}});
     return 0;
 }

@@ -31,7 +31,7 @@ extern "C" {
 
 /* Rises by one with every change that a host can see: of a name, a number, a call, an answer or a lent byte. The header that had
  * no version is version 1. CHANGELOG.md names the changes. */
-#define RIFFLERLEEK_VERSION 6
+#define RIFFLERLEEK_VERSION 7
 
 /* Limits. */
 #define RIFFLERLEEK_ROW_LIMIT 256      /* rows in a table */
@@ -39,11 +39,11 @@ extern "C" {
 #define RIFFLERLEEK_RECORD_WORDS 5     /* words in a record */
 #define RIFFLERLEEK_WIDTH_LIMIT 32     /* bits in a row */
 #define RIFFLERLEEK_PARAMETER_LIMIT 31 /* greatest shift, rotation or extract parameter */
-#define RIFFLERLEEK_TEXT_LIMIT 40000   /* bytes in a text */
+#define RIFFLERLEEK_TEXT_LIMIT 40000   /* bytes in a text, with its header */
 #define RIFFLERLEEK_NUMBER_LIMIT 999   /* greatest number in a text */
 
-/* The text of a table has at most ROW_BYTES for each row and RECORD_BYTES for each record; rifflerleek_size answers how many it
- * has. */
+/* The text that rifflerleek_write prints has at most ROW_BYTES for each row and RECORD_BYTES for each record; rifflerleek_size answers
+ * how many it has. */
 #define RIFFLERLEEK_ROW_BYTES 44
 #define RIFFLERLEEK_RECORD_BYTES 24
 
@@ -121,7 +121,8 @@ enum {
     RIFFLERLEEK_REFUSED_LOCKED = 10, /* the target row is locked; the record, inside the stretch or not */
     RIFFLERLEEK_REFUSED_LONG = 11,   /* the text is longer than the text limit; place 0 */
     RIFFLERLEEK_REFUSED_LINE = 12,   /* a line outside the grammar, a row line after a record line, or no final LF; the first such
-                                        line, from 1 (for a missing LF the last line) */
+                                        line, from 1 (for a missing LF the last line). A header is line 1; on a later line, or of
+                                        another edition than 2, it is outside the grammar */
     RIFFLERLEEK_REFUSED_ROOM = 13,   /* row lines or record words exceed the lent slices; place 0 */
     RIFFLERLEEK_REFUSED_BUFFER = 14  /* the output buffer is shorter than the table's text; place 0 */
 };
@@ -144,22 +145,27 @@ rifflerleek_answer rifflerleek_size(const uint8_t *width, size_t widths, const u
                                     const uint32_t *mask, size_t masks, const uint32_t *value, size_t values,
                                     const uint32_t *words, size_t word_count);
 
-/* Writes the table's text to the start of out. result is the text's number of bytes; the bytes of out after them are as they
- * were. Refusals 1 to 9, then 14: no byte of out is changed. */
+/* Writes the table's text to the start of out, in the letters 0, 1, X and without a header. result is the text's number of bytes; the
+ * bytes of out after them are as they were. Refusals 1 to 9, then 14: no byte of out is changed. */
 rifflerleek_answer rifflerleek_write(const uint8_t *width, size_t widths, const uint8_t *lock, size_t locks,
                                      const uint32_t *mask, size_t masks, const uint32_t *value, size_t values,
                                      const uint32_t *words, size_t word_count, uint8_t *out, size_t out_length);
 
 /* Reads a text into the start of the five slices. result is the number of rows, second_result the number of records; the slices'
- * elements after those are as they were. Refusals 2, 11, 12, 13: no element is changed. An empty text has no rows and no
- * records; the row slices may be longer than RIFFLERLEEK_ROW_LIMIT. */
+ * elements after those are as they were. Refusals 2, 11, 12, 13: no element is changed. An empty text has no rows and no records,
+ * nor has a header alone; the row slices may be longer than RIFFLERLEEK_ROW_LIMIT.
+ *
+ * Editions. The letters of a text are 0, 1, X. A text of edition 2, such as a simulator's listing, begins with a header, the ten
+ * bytes "edition\t2\n", and has nine letters: 0 and L mean 0; 1 and H mean 1; U, X, Z, W and - mean X. All else is the same in both.
+ * A text that was read and passes the table checks is what rifflerleek_write prints; of a text of edition 2 it prints the meaning:
+ * no header, and 0, 1 or X for each letter. */
 rifflerleek_answer rifflerleek_read(const uint8_t *text, size_t text_length, uint8_t *width, size_t widths, uint8_t *lock,
                                     size_t locks, uint32_t *mask, size_t masks, uint32_t *value, size_t values,
                                     uint32_t *words, size_t word_count);
 
-/* Where a field of a text lies, by line number and field number, both from 1; bytes after the last LF count as a line. The field
- * is the bytes text[result] up to but not including text[second_result]. Where there is no such field both ends are the same:
- * number 0 names the start of the text or of the line, a number too high its end. Never refuses. */
+/* Where a field of a text lies, by line number and field number, both from 1; a header is line 1, and bytes after the last LF count
+ * as a line. The field is the bytes text[result] up to but not including text[second_result]. Where there is no such field both
+ * ends are the same: number 0 names the start of the text or of the line, a number too high its end. Never refuses. */
 rifflerleek_answer rifflerleek_field(const uint8_t *text, size_t text_length, size_t line, size_t field);
 
 #ifdef __cplusplus

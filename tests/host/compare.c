@@ -6,7 +6,7 @@
 
 enum { GUARD = 64 };
 
-const char *const call_names[CALLS] = {"run", "count", "size", "write", "read", "field"};
+const char *const call_names[CALLS] = {"run", "count", "size", "write", "read", "listing", "field"};
 unsigned seen[CALLS][REFUSALS];
 size_t call_number;
 

@@ -5,7 +5,8 @@
 #include "library.h"
 #include "draw.h"
 
-enum { RUN, COUNT, SIZE, WRITE, READ, FIELD, CALLS, REFUSALS = 15 };
+// The calls, read twice: of a text without the header, and of a listing, which has it.
+enum { RUN, COUNT, SIZE, WRITE, READ, LISTING, FIELD, CALLS, REFUSALS = 15 };
 
 extern const char *const call_names[CALLS];
 

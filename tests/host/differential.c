@@ -1,19 +1,19 @@
 // Random calls, valid and damaged: the library and the reference must give the same answer and leave the same bytes, also
-// around and beyond what they write. Every answer of every call, and every kind of record, must occur, each kind of two operands also
-// with one row named twice, and no call may take more stack than the header says, which tests/host/depth reads off the archive.
+// around and beyond what they write; and a text that was read must be written back as it should. Every answer of every call, and every
+// kind of record, must occur, each kind of two operands also with one row named twice, and what report_texts counts; and no call may
+// take more stack than the header says, which tests/host/depth reads off the archive.
 // usage: differential [SEED [CALLS]]
-#include "compare.h"
+#include "text_calls.h"
 #include <stdio.h>
 #include <stdlib.h>
 #include <time.h>
 
 // The answers that each call has, as bits: bit 0 for a result, bit n for refusal n.
-static const unsigned answers[CALLS] = {0x7ff, 0x0b7, 0x3ff, 0x43ff, 0x3805, 0x0001};
+static const unsigned answers[CALLS] = {0x7ff, 0x0b7, 0x3ff, 0x43ff, 0x3805, 0x3805, 0x0001};
 
 static unsigned steps[KINDS], steps_twice[KINDS];
 
 static struct draft d;
-static struct text text;
 
 // A table, more than half of them with up to three faults.
 static void table(void)
@@ -95,53 +95,7 @@ static void call_write(void)
     }
 }
 
-// Slices that hold a text, or just not, filled with any bytes.
-static void room(void)
-{
-    size_t more = percent(50) ? 0 : below(5), words = percent(50) ? 0 : below(20);
-    d.widths = percent(15) && text.rows > 0 ? text.rows - 1 : text.rows + more;
-    d.word_count = 5 * text.records + words;
-    if (percent(15) && text.records > 0)
-        d.word_count = 5 * text.records - 1 - below(5);
-    d.locks = d.masks = d.values = d.widths;
-    size_t *lengths[] = {&d.widths, &d.locks, &d.masks, &d.values};
-    if (percent(8))
-        *lengths[below(4)] = below(d.widths + 4);
-    for (size_t i = 0; i < d.widths + 4; i++) {
-        d.width[i] = d.lock[i] = (uint8_t)draw();
-        d.mask[i] = d.value[i] = (uint32_t)draw();
-    }
-    for (size_t i = 0; i < d.word_count; i++)
-        d.words[i] = (uint32_t)draw();
-}
-
-static void call_read(void)
-{
-    struct ref_table r, t;
-    const uint8_t *other;
-    if (below(50) == 0)
-        draw_text_of(&text, 39999 + below(3));
-    else
-        draw_text(&text);
-    room();
-    t = lend_table(&d, &r);
-    uint8_t *lent_text = lend(text.bytes, text.length, &other);
-    compare(READ, library_read(lent_text, text.length, &t), ref_read(other, text.length, &r));
-}
-
-static void call_field(void)
-{
-    const uint8_t *other;
-    draw_text(&text);
-    if (percent(30))
-        for (size_t i = 0; i < text.length; i++)
-            text.bytes[i] = (uint8_t)"\t\n\0a"[below(4)];
-    size_t line = percent(90) ? below(14) : draw(), field = percent(90) ? below(9) : draw();
-    uint8_t *lent_text = lend(text.bytes, text.length, &other);
-    compare(FIELD, library_field(lent_text, text.length, line, field), ref_field(other, text.length, line, field));
-}
-
-// How often each answer and each kind was seen, and how many were not.
+// How often each answer, each kind and what texts must have was seen, and how many were not.
 static int report(void)
 {
     int missing = 0;
@@ -170,22 +124,22 @@ static int report(void)
             missing += steps_twice[k] == 0;
         }
     printf("\n");
-    return missing;
+    return missing + report_texts();
 }
 
 int main(int argc, char **argv)
 {
-    static void (*const calls[])(void) = {call_run, call_run, call_run, call_run, call_count, call_size, call_write, call_read, call_read, call_field};
+    static void (*const calls[])(void) = {call_run, call_run, call_run, call_run, call_count, call_size, call_write, call_read, call_read, call_field, call_trip};
     uint64_t from = argc > 1 ? strtoull(argv[1], NULL, 10) : 1;
     size_t count = argc > 2 ? strtoull(argv[2], NULL, 10) : 100000;
     printf("seed %llu, %zu calls\n", (unsigned long long)from, count);
     fflush(stdout);
     seed(from);
     for (call_number = 0; call_number < count; call_number++)
-        calls[below(10)]();
+        calls[below(sizeof calls / sizeof *calls)]();
     int missing = report();
     size_t stack = library_stack();
-    printf("library and reference agree on every answer and every byte, in %.1f s; answers and kinds never seen: %d\n",
+    printf("library and reference agree on every answer and every byte, in %.1f s; never seen of what must be: %d\n",
            (double)clock() / CLOCKS_PER_SEC, missing);
     printf("a call, and making it, takes at most %zu bytes of stack; the header allows %d, and %d for making it\n", stack,
            RIFFLERLEEK_STACK_LIMIT, LIBRARY_CALLER);

@@ -14,10 +14,15 @@ struct draft {
     size_t widths, locks, masks, values, word_count, first, last;
 };
 
+// edition: 1 or 2, whose letters the rows have. fault: what is wrong with the header, by number, HEADER_FAULTS where nothing is, and the
+// first line that is bad by it.
 struct text {
     uint8_t bytes[MAX_TEXT];
-    size_t length, rows, records;
+    size_t length, rows, records, fault, fault_line;
+    int edition;
 };
+
+enum { HEADER_FAULTS = 30 };
 
 void seed(uint64_t s);
 uint64_t draw(void);
@@ -38,10 +43,24 @@ void put(struct text *x, const char *s, size_t length);
 void put_row(struct text *x, int bad);
 void put_record(struct text *x, int bad);
 
-// A text: about half of them are damaged.
+// An edition, with the right header; a fault of the header of a text of so many lines.
+void draw_edition(struct text *x);
+void damage_header(struct text *x, size_t lines);
+
+// The header, at the start of the text; where the fault is that it comes once more, that one, before line i of the rows and records, from 0.
+void put_header(struct text *x);
+void put_header_again(struct text *x, size_t i);
+
+// A text of either edition: about half of them are damaged.
 void draw_text(struct text *x);
 
 // A text of exactly this many bytes, 1,000 at least, without a fault of the grammar.
 void draw_text_of(struct text *x, size_t length);
+
+// The text of a table that size accepts, in letters that mean its rows.
+void draw_text_of_table(struct text *x);
+
+// Where the row lines end that begin at a place of a text without a fault.
+size_t end_of_rows(const struct text *x, size_t start);
 
 #endif

@@ -38,19 +38,19 @@ static void put_line(struct text *x, const struct line *l)
     put(x, "\n", 1);
 }
 
-static void letters(struct line *l, size_t width)
+static void letters(struct line *l, int edition, size_t width)
 {
     l->lengths[2] = 0;
     while (l->lengths[2] < width)
-        append_byte(l, 2, "01X"[below(3)]);
+        append_byte(l, 2, "01XLHUZW-"[below(edition == 2 ? 9 : 3)]);
 }
 
-static void row_line(struct line *l)
+static void row_line(struct line *l, int edition)
 {
     l->count = 3;
     set(l, 0, "row");
     set(l, 1, percent(70) ? "open" : "locked");
-    letters(l, percent(20) ? 32 : 1 + below(32));
+    letters(l, edition, percent(20) ? 32 : 1 + below(32));
 }
 
 static void record_line(struct line *l)
@@ -81,8 +81,14 @@ static void add_leading_zero(struct line *l, size_t i)
     l->fields[i][0] = '0';
 }
 
+// A byte that is no letter of the edition.
+static char no_letter(int edition)
+{
+    return "xlhuzw2/:,YV[ \r\0LHUZW-"[below(edition == 2 ? 16 : 22)];
+}
+
 // A fault of a row line's or a record line's own: in its words, letters or numbers.
-static void damage_words(struct line *l)
+static void damage_words(struct line *l, int edition)
 {
     static const char *const firsts[] = {"Row", "ro", "rows", "ops", "o", "OP", "row ", "", "op", "row"};
     static const char *const locks[] = {"Open", "lock", "lockedd", "ope", "OPEN", "0", "open "};
@@ -95,13 +101,13 @@ static void damage_words(struct line *l)
     case 1: set(l, 1, row ? locks[below(7)] : names[below(14)]); return;
     case 2:
         if (row)
-            letters(l, percent(50) ? 33 + below(3) : 0);
+            letters(l, edition, percent(50) ? 33 + below(3) : 0);
         else
             add_leading_zero(l, 2 + below(4));
         return;
     default:
         if (row)
-            l->fields[2][below(l->lengths[2])] = "xZ2/:- \r\0W"[below(10)];
+            l->fields[2][below(l->lengths[2])] = no_letter(edition);
         else
             set(l, 2 + below(4), numbers[below(14)]);
     }
@@ -125,7 +131,7 @@ static void damage_fields(struct line *l)
 static void put_damaged(struct text *x, struct line *l, int bad)
 {
     if (bad && percent(60))
-        damage_words(l);
+        damage_words(l, x->edition);
     else if (bad)
         damage_fields(l);
     put_line(x, l);
@@ -134,7 +140,7 @@ static void put_damaged(struct text *x, struct line *l, int bad)
 void put_row(struct text *x, int bad)
 {
     struct line l;
-    row_line(&l);
+    row_line(&l, x->edition);
     put_damaged(x, &l, bad);
 }
 

@@ -30,20 +30,27 @@ static void put_lines(struct text *x, size_t rows, size_t records, size_t bad)
     x->length = 0;
     x->rows = rows;
     x->records = records;
-    for (size_t i = 0; i < rows + records; i++)
+    put_header(x);
+    for (size_t i = 0; i < rows + records; i++) {
+        put_header_again(x, i);
         if (i < rows)
             put_row(x, i == bad);
         else if (i == bad && percent(20))
             put_row(x, 0);
         else
             put_record(x, i == bad);
+    }
+    put_header_again(x, rows + records);
 }
 
 void draw_text(struct text *x)
 {
-    int large = below(100) == 0;
-    size_t rows = large ? 250 + below(20) : below(6), records = large ? 1010 + below(30) : below(6);
+    int large = below(100) == 0, none = percent(5);
+    size_t rows = large ? 250 + below(20) : none ? 0 : below(6), records = large ? 1010 + below(30) : none ? 0 : below(6);
     size_t bad = percent(40) ? below(rows + records + 1) : SIZE_MAX;
+    draw_edition(x);
+    if (percent(15))
+        damage_header(x, rows + records);
     put_lines(x, rows, records, bad);
     if (percent(20))
         damage_bytes(x);
@@ -68,6 +75,7 @@ static void put_record_of(struct text *x, size_t n)
 
 void draw_text_of(struct text *x, size_t length)
 {
+    draw_edition(x);
     put_lines(x, 1 + below(20), 0, SIZE_MAX);
     for (; x->length < length; x->records++) {
         size_t left = length - x->length;

@@ -67,6 +67,10 @@ struct ref_answer ref_run(struct ref_table *t, size_t first, size_t last, unsign
 struct ref_answer ref_count(const struct ref_table *t, size_t row);
 struct ref_answer ref_size(const struct ref_table *t);
 struct ref_answer ref_write(const struct ref_table *t, uint8_t *out, size_t length);
+
+// Whether a text begins with the header of edition 2.
+int ref_headed(const uint8_t *text, size_t length);
+
 struct ref_answer ref_read(const uint8_t *text, size_t length, struct ref_table *t);
 struct ref_answer ref_field(const uint8_t *text, size_t length, size_t line, size_t field);
 

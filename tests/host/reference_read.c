@@ -1,6 +1,13 @@
-// The text of a table: read, line by line.
+// The text of a table, of either edition: read, line by line.
 #include "reference.h"
 #include <string.h>
+
+// The first line of a text of edition 2. A text without it is of edition 1.
+static const char header[] = "edition\t2\n";
+
+// The letters of edition 2 and, under each, the one of 0, 1, X that it stands for. Edition 1 has the first three.
+static const char nine[] = "01XLHUZW-";
+static const char three[] = "01X01XXXX";
 
 // A part of the text.
 struct part {
@@ -39,12 +46,19 @@ static int number(struct part f)
     return n;
 }
 
+// 0, 1 or X, or NUL where the edition has no such letter.
+static char meaning(int edition, uint8_t letter)
+{
+    const char *at = memchr(nine, letter, edition == 2 ? 9 : 3);
+    return at == NULL ? 0 : three[at - nine];
+}
+
 struct row {
     uint8_t width, lock;
     uint32_t mask, value;
 };
 
-static int row_line(const struct part *f, size_t n, struct row *row)
+static int row_line(int edition, const struct part *f, size_t n, struct row *row)
 {
     if (n != 3 || !is_word(f[0], "row") || !(is_word(f[1], "open") || is_word(f[1], "locked")))
         return 0;
@@ -52,10 +66,11 @@ static int row_line(const struct part *f, size_t n, struct row *row)
         return 0;
     *row = (struct row){(uint8_t)f[2].length, is_word(f[1], "locked"), 0, 0};
     for (size_t i = 0; i < f[2].length; i++) {
-        if (f[2].at[i] == 0 || strchr("01X", f[2].at[i]) == NULL)
+        char letter = meaning(edition, f[2].at[i]);
+        if (letter == 0)
             return 0;
-        row->mask = row->mask << 1 | (f[2].at[i] == 'X');
-        row->value = row->value << 1 | (f[2].at[i] == '1');
+        row->mask = row->mask << 1 | (letter == 'X');
+        row->value = row->value << 1 | (letter == '1');
     }
     return 1;
 }
@@ -76,10 +91,17 @@ static int record_line(const struct part *f, size_t n, uint32_t words[5])
     return words[0] != KINDS;
 }
 
-// Goes over the lines, counts them and, where fill is 1, puts rows and records into t. The first bad line, from 1, or 0.
+int ref_headed(const uint8_t *text, size_t length)
+{
+    return length >= strlen(header) && memcmp(text, header, strlen(header)) == 0;
+}
+
+// Goes over the lines after the header, counts rows and records and, where fill is 1, puts them into t. The first bad line, or 0; the
+// text's first line, also where it is the header, is line 1.
 static size_t lines(struct part text, struct ref_table *t, int fill, size_t *rows, size_t *records)
 {
-    size_t start = 0, line = 1;
+    int edition = ref_headed(text.at, text.length) ? 2 : 1;
+    size_t start = edition == 2 ? strlen(header) : 0, line = edition == 2 ? 2 : 1;
     for (*rows = *records = 0; start < text.length; line++) {
         struct part fields[7];
         struct row row;
@@ -89,7 +111,7 @@ static size_t lines(struct part text, struct ref_table *t, int fill, size_t *row
             return line;
         size_t length = (size_t)(end - (text.at + start));
         size_t n = cut((struct part){text.at + start, length}, fields);
-        if (*records == 0 && row_line(fields, n, &row)) {
+        if (*records == 0 && row_line(edition, fields, n, &row)) {
             if (fill) {
                 t->width[*rows] = row.width;
                 t->lock[*rows] = row.lock;

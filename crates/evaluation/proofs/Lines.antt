@@ -9,7 +9,7 @@ use lib.ListN.{length, drop, length-append}
 use lib.Seq.{sets-eq}
 use Rattle.grammar.specs.Print.{decimal, joined}
 use Rattle.grammar.proofs.Decimals.{length-small, length-large}
-use Rattle.lines.specs.Put.{Holds, Put}
+use Rattle.printing.specs.Put.{Holds, Put}
 use Rattle.evaluation.specs.Evaluate.{Printed, refusedLine, outputRoom}
 
 -- a number below 10 ^ k has at most k digits

@@ -1,25 +1,26 @@
 -- The letters of a vector: printing and reading undo each other. Assumes nothing.
 --   letters-length, letters-letters   what is printed
 --   mask-back, value-back             what is printed is read as that vector
---   letters-back                      letters that were read are printed again
+--   letters-back                      letters of any alphabet that were read are printed as what they mean
 use mathlib.Core.Path.{_≡_, refl, sym, ap, ap₂, _∙_, subst}
 use mathlib.Core.Bool.{Bool, true, false, cond, _||_}
 use mathlib.Core.Logic.{inl, inr}
-use mathlib.Core.List.{List, [], _∷_}
+use mathlib.Core.List.{List, [], _∷_, map}
 use Prim.Native.Nat.{ℕ, zero, suc, _+_, _*_, _/_, _%_, _^_, _<_}
 use native.Mathlib.Nat.{mod-lt, zero-lt-suc, mod-eq-of-lt, div-one, div-div-eq-div-mul, pow-suc, pow-succ', add-mul, mul-assoc, add-assoc, zero-mul, zero-add}
 use native.Mathlib.Omega.{arith}
 use lib.Dec.{T, eqb, eqb→eq}
 use lib.ListN.{length}
-use Rattle.bits.specs.Bit.{bit}
+use Rattle.bits.specs.Bit.{bit, digit}
 use Rattle.bits.proofs.Bools.{T-left, T-right, T-and, T-or}
 use Rattle.bits.proofs.Bits.{bit-lt, digit-lt}
 use Rattle.bits.proofs.Shifts.{mod-pow-suc}
 use Rattle.vectors.specs.Row.{Row, WellFormed}
-use Rattle.grammar.specs.Lists.{allOf}
-use Rattle.grammar.specs.Words.{letter0, letter1, letterX, threeLetters}
+use Rattle.grammar.specs.Lists.{allOf, isIn}
+use Rattle.grammar.specs.Words.{letter0, letter1, letterX, Alphabet, threeLetters}
 use Rattle.grammar.specs.Print.{letter, lettersOf}
 use Rattle.grammar.specs.Line.{numeral, maskBit, valueBit, isLetter}
+use Rattle.grammar.specs.Meaning.{letterMeant}
 
 abbrev mask-of : ℕ → ℕ
 mask-of b = maskBit threeLetters b
@@ -61,8 +62,14 @@ by-letter P p q r c t =
     at : (d : ℕ) → T (eqb c d || false) → P d → P c
     at d v h = elim (T-or (eqb c d) false v) [ inl w ↦ subst P (sym (eqb→eq c d w)) h | inr w ↦ absurd w ]
 
-letter-back : (c : ℕ) → T (isLetter threeLetters c) → letter (mask-of c) (value-of c) ≡ c
-letter-back c t = by-letter (λ x. letter (mask-of x) (value-of x) ≡ x) refl refl refl c t
+letter-back : (a : Alphabet) (c : ℕ) → T (isLetter a c) → letter (maskBit a c) (valueBit a c) ≡ letterMeant a c
+letter-back a c t = go (isIn c (a .zeros)) (isIn c (a .ones)) (isIn c (a .unknowns)) t
+  where
+    go : (z o u : Bool) → T (z || o || u) → letter (digit u) (digit o) ≡ cond u letterX (cond o letter1 (cond z letter0 c))
+    go z o true t = refl
+    go z true false t = refl
+    go true false false t = refl
+    go false false false t = absurd t
 
 -- ---- reading what was printed
 
@@ -120,11 +127,12 @@ numeral-bit : (d : ℕ → ℕ) → ((b : ℕ) → d b < 2) → (n b : ℕ) (f :
 unfolding bit
 numeral-bit d h n b f = ap (λ (x : ℕ). x % 2) (numeral-high d h (n * 2 + d b) f) ∙ omega (arith, h b)
 
-pub letters-back : (f : List ℕ) (m v : ℕ) → T (allOf (isLetter threeLetters) f) → lettersOf (length f) (numeral 2 (maskBit threeLetters) m f) (numeral 2 (valueBit threeLetters) v f) ≡ f
+pub letters-back : (a : Alphabet) (f : List ℕ) (m v : ℕ) → T (allOf (isLetter a) f)
+    → lettersOf (length f) (numeral 2 (maskBit a) m f) (numeral 2 (valueBit a) v f) ≡ map (letterMeant a) f
 unfolding lettersOf numeral allOf
-letters-back [] m v t = refl
-letters-back (b ∷ f) m v t =
+letters-back a [] m v t = refl
+letters-back a (b ∷ f) m v t =
     ap₂ {C = List ℕ} _∷_
-    (ap₂ letter (numeral-bit mask-of (λ c. digit-lt (eqb c letterX || false)) m b f) (numeral-bit value-of (λ c. digit-lt (eqb c letter1 || false)) v b f)
-    ∙ letter-back b (T-left (isLetter threeLetters b) (allOf (isLetter threeLetters) f) t))
-    (letters-back f (m * 2 + mask-of b) (v * 2 + value-of b) (T-right (isLetter threeLetters b) (allOf (isLetter threeLetters) f) t))
+    (ap₂ letter (numeral-bit (maskBit a) (λ c. digit-lt (isIn c (a .unknowns))) m b f) (numeral-bit (valueBit a) (λ c. digit-lt (isIn c (a .ones))) v b f)
+    ∙ letter-back a b (T-left (isLetter a b) (allOf (isLetter a) f) t))
+    (letters-back a f (m * 2 + maskBit a b) (v * 2 + valueBit a b) (T-right (isLetter a b) (allOf (isLetter a) f) t))

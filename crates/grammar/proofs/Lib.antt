@@ -13,6 +13,7 @@ pub mod LineBacks
 pub mod Listed
 pub mod Sorted
 pub mod Openings
+pub mod Meanings
 pub mod WordUses
 pub mod WriteRead
 pub mod ReadWrite

@@ -1,6 +1,6 @@
--- A text with no bad line is the text of the table that it holds. Assumes nothing.
+-- The text of the table that a text with no bad line holds is the meaning of that text. Assumes nothing.
 --   table-text   that;   records-whole   the words that it holds make up whole records
-use mathlib.Core.Path.{_≡_, refl, sym, ap, ap₂, _∙_}
+use mathlib.Core.Path.{_≡_, refl, sym, ap, ap₂, _∙_, subst}
 use mathlib.Core.Bool.{Bool, true, false, not}
 use mathlib.Core.List.{List, [], _∷_, _++_, map}
 use Prim.Native.Nat.{ℕ, suc, _+_, _*_, _/_}
@@ -14,15 +14,16 @@ use Rattle.vectors.specs.Lists.{All}
 use Rattle.operations.specs.Limits.{recordWords}
 use Rattle.checks.specs.Table.{recordCount, recordOf}
 use Rattle.bits.specs.Counted.{listed}
-use Rattle.grammar.specs.Words.{lf, tab, edition1}
+use Rattle.grammar.specs.Words.{lf, tab, Alphabet, Edition, withLetters}
 use Rattle.grammar.specs.Print.{LineRow, Line, rowLine, recordLine, outside, fieldsOf, joined, lineText, linesText, lineRow, rowLines, recordLines, tableLines, textOf}
 use Rattle.grammar.specs.Cut.{pieces}
 use Rattle.grammar.specs.Line.{lineOf}
 use Rattle.grammar.specs.Lines.{linesOf, opening, linesIn, firstBad, rowsIn, wordsIn, tableIn, tableRead}
-use Rattle.grammar.proofs.Cuts.{joined-pieces}
+use Rattle.grammar.specs.Meaning.{lineMeant, meaningOf}
 use Rattle.grammar.proofs.LineBacks.{isOutside, Shaped, line-back}
 use Rattle.grammar.proofs.Listed.{listed-ext, listed-getD, listed-map}
-use Rattle.grammar.proofs.Sorted.{rows-first, recordsOf, Records, records-pass, words-records, words-count, words-cut}
+use Rattle.grammar.proofs.Openings.{opening-first, opening-letters, lines-after}
+use Rattle.grammar.proofs.Sorted.{bad-from-one, rows-first, recordsOf, Records, records-pass, words-records, words-count, words-cut}
 
 -- no line before the first bad one is outside the grammar
 good-here : (later : Bool) (n : ℕ) (l : Line) (ls : List Line) → firstBad later (suc n) (l ∷ ls) ≡ 0 → T (not (isOutside l)) × ((b : Bool) × (firstBad b (suc (suc n)) ls ≡ 0))
@@ -32,20 +33,20 @@ good-here false n (rowLine r) ls e = (tt, (false, e))
 good-here later n (recordLine ws) ls e = (tt, (true, e))
 good-here later n outside ls e = absurd (omega arith)
 
--- the lines that were read print as the bytes that they were read from
-lines-back : (ps : List (List ℕ)) (later : Bool) (n : ℕ) → firstBad later (suc n) (linesOf edition1 ps) ≡ 0 → (linesText (linesOf edition1 ps) ≡ joined lf ps) × All Shaped (linesOf edition1 ps)
+-- the lines that were read with the alphabet a print as what the bytes mean that they were read from
+lines-back : (a : Alphabet) (ps : List (List ℕ)) (later : Bool) (n : ℕ) → firstBad later (suc n) (linesOf (withLetters a) ps) ≡ 0
+    → (linesText (linesOf (withLetters a) ps) ≡ joined lf (map (lineMeant a) ps)) × All Shaped (linesOf (withLetters a) ps)
 unfolding linesOf linesText lineText joined
-lines-back [] b n e = (refl, tt)
-lines-back ([] ∷ []) b n e = (refl, tt)
-lines-back ((x ∷ p) ∷ []) b n e = absurd (unfold firstBad in omega arith)
-lines-back (p ∷ q ∷ ps) b n e =
-    let h = good-here b n (lineOf edition1 (pieces tab p)) (linesOf edition1 (q ∷ ps)) e in
-    let here = line-back (pieces tab p) (h .0) in
-    let rest = lines-back (q ∷ ps) (h .1 .0) (suc n) (h .1 .1) in (
-      append-snoc (joined tab (fieldsOf (lineOf edition1 (pieces tab p)))) lf (linesText (linesOf edition1 (q ∷ ps)))
-          ∙ ap₂ (λ (x y : List ℕ). x ++ lf ∷ y) (ap (joined tab) (here .0) ∙ joined-pieces tab p) (rest .0),
-      (here .1, rest .1),
-    )
+lines-back a [] b n e = (refl, tt)
+lines-back a ([] ∷ []) b n e = (unfold pieces in refl, tt)
+lines-back a ((x ∷ p) ∷ []) b n e = absurd (unfold firstBad in omega arith)
+lines-back a (p ∷ q ∷ ps) b n e =
+    let l = lineOf (withLetters a) (pieces tab p) in
+    let ls = linesOf (withLetters a) (q ∷ ps) in
+    let h = good-here b n l ls e in
+    let here = line-back a (pieces tab p) (h .0) in
+    let rest = lines-back a (q ∷ ps) (h .1 .0) (suc n) (h .1 .1) in
+    (append-snoc (joined tab (fieldsOf l)) lf (linesText ls) ∙ ap₂ (λ (x y : List ℕ). x ++ lf ∷ y) (ap (joined tab) (here .0)) (rest .0), (here .1, rest .1))
 
 no-row : LineRow
 no-row = record { lock = 0; vector = row 0 0 0 }
@@ -93,14 +94,27 @@ module _ (ls : List Line) (good : firstBad false 1 ls ≡ 0) (shaped : All Shape
   table-lines = ap₂ (λ (x y : List Line). x ++ y) rows-lines records-lines ∙ rows-first 0 ls good
 
 module _ (text : List ℕ) (good : firstBad false (opening text .first) (linesIn text) ≡ 0) where
+  abbrev letters : Alphabet
+  letters = opening text .edition .letters
+
+  abbrev parts : List (List ℕ)
+  parts = pieces lf (drop (opening text .at) text)
+
+  lines-are : linesIn text ≡ linesOf (withLetters letters) parts
+  lines-are = lines-after text ∙ ap (λ (e : Edition). linesOf e parts) (opening-letters text)
+
+  from-one : firstBad false 1 (linesIn text) ≡ 0
+  from-one = bad-from-one (opening text .first) (linesIn text) (opening-first text .0) good
+
+  backs : (linesText (linesOf (withLetters letters) parts) ≡ joined lf (map (lineMeant letters) parts)) × All Shaped (linesOf (withLetters letters) parts)
+  backs = lines-back letters parts false 0 (sym (ap (firstBad false 1) lines-are) ∙ from-one)
+
   shapes : All Shaped (linesIn text)
-  unfolding linesIn
-  shapes = lines-back (pieces lf text) false 0 good .1
+  shapes = subst (All Shaped) (sym lines-are) (backs .1)
 
   pub records-whole : (n : ℕ) × (length (wordsIn (linesIn text)) ≡ n * recordWords)
-  unfolding opening
-  records-whole = (length (recordsOf (linesIn text)), words-whole (linesIn text) good shapes)
+  records-whole = (length (recordsOf (linesIn text)), words-whole (linesIn text) from-one shapes)
 
-  pub table-text : textOf (tableRead text) ≡ text
-  unfolding textOf linesIn
-  table-text = ap linesText (table-lines (linesIn text) good shapes) ∙ lines-back (pieces lf text) false 0 good .0 ∙ joined-pieces lf text
+  pub table-text : textOf (tableRead text) ≡ meaningOf text
+  unfolding textOf meaningOf
+  table-text = ap linesText (table-lines (linesIn text) from-one shapes ∙ lines-are) ∙ backs .0

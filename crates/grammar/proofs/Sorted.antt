@@ -1,11 +1,11 @@
 -- Lines of which none is bad: row lines, then record lines of one size. Assumes nothing.
---   bad-any, no-rows-after   none bad, whatever the count begins with; no row line after a record line
+--   bad-any, bad-from-one    none bad, whatever the count begins with, or from 1;   no-rows-after   no row line after a record line
 --   rows-first               the row lines, then the rest
 --   words-count, words-cut   the words of record lines, and the records that they make up
 use mathlib.Core.Path.{_≡_, refl, sym, ap, ap₂, _∙_}
 use mathlib.Core.Bool.{Bool, true, false}
 use mathlib.Core.List.{List, [], _∷_, _++_, map, append-assoc}
-use Prim.Native.Nat.{ℕ, suc, _+_, _*_}
+use Prim.Native.Nat.{ℕ, zero, suc, _+_, _*_, _≤_}
 use native.Mathlib.Omega.{arith}
 use lib.ListN.{length, take, drop, length-append}
 use lib.Seq.{take-at, drop-at}
@@ -31,6 +31,10 @@ bad-any true m k (rowLine r ∷ ls) e = absurd (omega arith)
 bad-any false m k (rowLine r ∷ ls) e = bad-any false (suc m) (suc k) ls e
 bad-any later m k (recordLine ws ∷ ls) e = bad-any true (suc m) (suc k) ls e
 bad-any later m k (outside ∷ ls) e = absurd (omega arith)
+
+pub bad-from-one : (n : ℕ) (ls : List Line) → 1 ≤ n → firstBad false n ls ≡ 0 → firstBad false 1 ls ≡ 0
+bad-from-one zero ls h e = absurd (omega arith)
+bad-from-one (suc m) ls h e = bad-any false m 1 ls e
 
 pub no-rows-after : (n : ℕ) (ls : List Line) → firstBad true (suc n) ls ≡ 0 → rowsIn ls ≡ []
 unfolding firstBad rowsIn

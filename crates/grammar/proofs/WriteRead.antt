@@ -8,24 +8,25 @@ use mathlib.Core.List.{List, [], _∷_, map}
 use Prim.Native.Nat.{ℕ, _+_, _*_, _≤_}
 use native.Mathlib.Omega.{arith}
 use lib.Dec.{T, ltb, eqb, ltb→lt}
-use lib.ListN.{length, getD}
+use lib.ListN.{length, getD, drop}
 use lib.Seq.{append-snoc}
 use Rattle.vectors.specs.Lists.{All}
 use Rattle.operations.specs.Limits.{recordWords}
 use Rattle.checks.specs.Table.{Table, recordCount, recordOf}
 use Rattle.checks.specs.Accepted.{TablePassed}
 use Rattle.bits.specs.Counted.{listed}
-use Rattle.grammar.specs.Lists.{allOf}
+use Rattle.grammar.specs.Lists.{allOf, same}
 use Rattle.grammar.specs.Words.{lf, tab, Edition, edition1}
 use Rattle.grammar.specs.Print.{LineRow, Line, rowLine, recordLine, outside, fieldsOf, joined, lineText, linesText, lineRow, rowLines, recordLines, tableLines, textOf}
 use Rattle.grammar.specs.Cut.{pieces}
 use Rattle.grammar.specs.Line.{lineOf}
-use Rattle.grammar.specs.Lines.{linesOf, linesFrom, opening, linesIn, firstBad, rowsIn, wordsIn, tableIn, tableRead}
+use Rattle.grammar.specs.Lines.{linesOf, linesFrom, headed, Opening, opening, linesIn, firstBad, rowsIn, wordsIn, tableIn, tableRead}
 use Rattle.grammar.proofs.Tests.{ne→neqb, allOf-imp}
 use Rattle.grammar.proofs.Cuts.{without, pieces-cut, pieces-joined, by-first, all-joined}
 use Rattle.grammar.proofs.Names.{clean}
 use Rattle.grammar.proofs.LineTrips.{LineFits, line-trip, fields-clean}
 use Rattle.grammar.proofs.Listed.{all-append, listed-all, listed-ext, listed-getD, listed-map, bad-none, rows-listed, words-after, words-listed}
+use Rattle.grammar.proofs.Openings.{opening-bare, lines-after}
 use Rattle.grammar.proofs.WordUses.{words-length, row-fits, record-fits}
 
 -- ---- lines that fit are read from their text
@@ -49,14 +50,25 @@ pub next-line : (e : Edition) (p text : List ℕ) → linesOf e (p ∷ pieces lf
 unfolding linesOf
 next-line e p text = by-first (λ (ps : List (List ℕ)). linesOf e (p ∷ ps) ≡ lineOf e (pieces tab p) ∷ linesOf e ps) (λ q qs. refl) lf text
 
-lines-read : (ls : List Line) → All LineFits ls → linesIn (linesText ls) ≡ ls
-unfolding linesIn linesText lineText
+lines-read : (ls : List Line) → All LineFits ls → linesFrom edition1 (linesText ls) ≡ ls
+unfolding linesText lineText
 lines-read [] h = unfold linesOf pieces in refl
 lines-read (l ∷ ls) h =
     ap (λ (x : List ℕ). linesOf edition1 (pieces lf x)) (append-snoc (joined tab (fieldsOf l)) lf (linesText ls))
     ∙ ap (linesOf edition1) (pieces-cut lf (joined tab (fieldsOf l)) (linesText ls) (no-end l (h .0)))
     ∙ next-line edition1 (joined tab (fieldsOf l)) (linesText ls)
     ∙ ap₂ {C = List Line} _∷_ (ap (lineOf edition1) (fields-cut l (h .0)) ∙ line-trip l (h .0)) (lines-read ls (h .1))
+
+-- their text begins with no header
+no-header : (ls : List Line) → All LineFits ls → T (not (headed (linesText ls)))
+unfolding headed linesText lineText fieldsOf joined same
+no-header [] h = tt
+no-header (rowLine r ∷ ls) h = tt
+no-header (recordLine ws ∷ ls) h = tt
+no-header (outside ∷ ls) h = absurd (h .0)
+
+lines-in : (ls : List Line) → All LineFits ls → linesIn (linesText ls) ≡ ls
+lines-in ls h = lines-after (linesText ls) ∙ ap (λ (o : Opening). linesFrom (o .edition) (drop (o .at) (linesText ls))) (opening-bare (linesText ls) (no-header ls h)) ∙ lines-read ls h
 
 -- ---- a table that passed
 
@@ -70,11 +82,11 @@ module _ (t : Table) (P : TablePassed t) where
 
   pub text-lines : linesIn (textOf t) ≡ tableLines t
   unfolding textOf
-  text-lines = lines-read (tableLines t) lines-fit
+  text-lines = lines-in (tableLines t) lines-fit
 
   pub text-good : firstBad false (opening (textOf t) .first) (linesIn (textOf t)) ≡ 0
-  unfolding tableLines opening
-  text-good = ap (firstBad false 1) text-lines ∙ bad-none (lineRow t) (recordOf t) 1 (length (t .widths)) (recordCount t)
+  unfolding tableLines
+  text-good = let first = opening (textOf t) .first in ap (firstBad false first) text-lines ∙ bad-none (lineRow t) (recordOf t) first (length (t .widths)) (recordCount t)
 
   rows-are : rowsIn (linesIn (textOf t)) ≡ listed (lineRow t) 0 (length (t .widths))
   unfolding tableLines

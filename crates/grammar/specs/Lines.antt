@@ -1,6 +1,7 @@
--- The lines of a text and what they hold (01, "Text" and "Who can cause a refusal").
+-- The lines of a text and what they hold (01, "Text" and "Who can cause a refusal"; 02, request 5, for the editions).
 --   isEmpty bs            there is no byte
 --   linesOf e ps          the lines of a text cut at LF, read by the edition e;   linesFrom e text   those of a text, or of the rest of one
+--   headed text           the first line is edition 2's header
 --   Opening, opening text what the first line says: the edition of the text, and where and with which number its first row or record line begins
 --   linesIn text          the row lines and record lines of a text
 --   firstBad later n ls   the number of the first bad line, counted on from n, or 0 where there is none
@@ -9,9 +10,10 @@
 use mathlib.Core.Bool.{Bool, true, false, cond}
 use mathlib.Core.List.{List, [], _∷_, _++_, map}
 use Prim.Native.Nat.{ℕ, suc}
-use lib.ListN.{drop}
+use lib.ListN.{length, take, drop}
 use Rattle.checks.specs.Table.{Table}
-use Rattle.grammar.specs.Words.{lf, tab, Edition, edition1}
+use Rattle.grammar.specs.Lists.{same}
+use Rattle.grammar.specs.Words.{lf, tab, Edition, edition1, edition2, header2}
 use Rattle.grammar.specs.Print.{LineRow, Line, rowLine, recordLine, outside}
 use Rattle.grammar.specs.Cut.{pieces}
 use Rattle.grammar.specs.Line.{lineOf}
@@ -34,9 +36,13 @@ pub record Opening : Type 0 where
   pub at : ℕ
   pub first : ℕ
 
--- Edition 1 has no header line: its row lines begin with the first byte, and the first of them is line 1.
+-- "A text whose first line is `edition`, tab, `2`" (02, request 5), with its LF
+unfoldable pub headed : List ℕ → Bool
+headed text = same (take (length header2) text) header2
+
+-- "A text without that line keeps the three letters." The header counts as line 1; any other first line is one of edition 1, or outside the grammar.
 unfoldable pub opening : List ℕ → Opening
-opening text = record { edition = edition1; at = 0; first = 1 }
+opening text = cond (headed text) (record { edition = edition2; at = length header2; first = 2 }) (record { edition = edition1; at = 0; first = 1 })
 
 -- Whoever unfolds the lines unfolds the opening with them.
 unfoldable pub linesIn : List ℕ → List Line

@@ -2,9 +2,9 @@
 --   lf, tab            the byte that ends a line, and the one that parts its fields
 --   rowWord, opWord    the first field of a row line and of a record line;   lockWord l   the second of a row line: openWord or lockedWord
 --   zeroByte           the byte of the digit 0;   letter0, letter1, letterX   the letters of a vector
---   Alphabet           the letters that stand for 0, for 1 and for X;   threeLetters   those of 01
---   Edition            what a reader goes by: letters, operations, and how many numbers a record line has;   edition1   that of 01
--- Edition 1 has no header line: textOf (Print) begins with the rows, and opening (Lines) says that every text is of edition1.
+--   Alphabet           the letters that stand for 0, for 1 and for X;   threeLetters   those of 01;   nineLetters   those of 02, request 5
+--   Edition            what a reader goes by: letters, operations, and how many numbers a record line has;   withLetters a   one with the alphabet a
+--   edition1           that of 01, which has no header line;   edition2   that of 02, request 5;   header2   its header line
 use Prim.Native.Nat.{ℕ, _-_}
 use mathlib.Core.Bool.{cond}
 use mathlib.Core.List.{List, [], _∷_}
@@ -58,6 +58,10 @@ pub record Alphabet : Type 0 where
 abbrev pub threeLetters : Alphabet
 threeLetters = record { zeros = letter0 ∷ []; ones = letter1 ∷ []; unknowns = letterX ∷ [] }
 
+-- "reads 0 and L as 0, 1 and H as 1, and U, X, Z, W and - as X" (02, request 5)
+abbrev pub nineLetters : Alphabet
+nineLetters = record { zeros = bytes "0L"; ones = bytes "1H"; unknowns = bytes "UXZW-" }
+
 -- ---- editions
 
 pub record Edition : Type 0 where
@@ -66,5 +70,15 @@ pub record Edition : Type 0 where
   pub numbers : ℕ
 
 -- every word of a record but the kind is a number of its line
+abbrev pub withLetters : Alphabet → Edition
+withLetters a = record { letters = a; operations = kinds; numbers = recordWords - 1 }
+
 abbrev pub edition1 : Edition
-edition1 = record { letters = threeLetters; operations = kinds; numbers = recordWords - 1 }
+edition1 = withLetters threeLetters
+
+abbrev pub edition2 : Edition
+edition2 = withLetters nineLetters
+
+-- "A text whose first line is `edition`, tab, `2`" (02, request 5)
+abbrev pub header2 : List ℕ
+header2 = bytes "edition\t2\n"

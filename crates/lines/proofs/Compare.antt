@@ -15,8 +15,8 @@ use Rattle.grammar.specs.Words.{openWord, lockedWord}
 use Rattle.grammar.proofs.Tests.{other-word, eq→same}
 use Rattle.grammar.specs.Line.{isLock, lockOf}
 use Rattle.bits.proofs.Bools.{T-inr}
-use Rattle.lines.specs.Reads.{reading}
-use Rattle.lines.proofs.Telling.{tells, tells-not}
+use Rattle.letters.specs.Reads.{reading}
+use Rattle.letters.proofs.Telling.{tells, tells-not}
 
 pub other-length : (a b : List ℕ) → (length b ≡ length a → ⊥) → false ≡ same a b
 other-length a b h = sym (other-word a b (λ e. h (ap length (sym e))))

@@ -1,10 +1,11 @@
 -- The editions of the code. Assumes nothing.
---   only   there is one
+--   letters-alone   they differ in their letters alone
 use mathlib.Core.Path.{_≡_, refl}
-use Rattle.grammar.specs.Words.{edition1}
-use Rattle.lines.specs.declared.edition.Edition.{Edition}
-use Rattle.lines.specs.declared.edition.Edition.the-variants.{First}
-use Rattle.lines.specs.Model.{editionModel}
+use Rattle.grammar.specs.Words.{withLetters}
+use Rattle.letters.specs.declared.Edition.{Edition}
+use Rattle.letters.specs.declared.Edition.the-variants.{First, Second}
+use Rattle.letters.specs.Model.{editionModel}
 
-pub only : (e : Edition) → editionModel e ≡ edition1
-only First = refl
+pub letters-alone : (e : Edition) → editionModel e ≡ withLetters (editionModel e .letters)
+letters-alone First = refl
+letters-alone Second = refl

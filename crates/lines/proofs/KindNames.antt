@@ -20,7 +20,7 @@ use Rattle.operations.proofs.Lookup.{kind-test, below-kind}
 use Rattle.grammar.specs.Lists.{same}
 use Rattle.grammar.specs.Line.{isName, numberNamed}
 use Rattle.grammar.proofs.Tests.{same→eq}
-use Rattle.lines.specs.Reads.{reading}
+use Rattle.letters.specs.Reads.{reading}
 
 -- the kind's place in the list
 place-right : ℕ → Bool

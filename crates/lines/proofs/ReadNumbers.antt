@@ -17,8 +17,8 @@ use Rattle.grammar.specs.Line.{numeral, isDigit, leadingZero, isNumber, numberO
 use Rattle.grammar.proofs.Tests.{ne→neqb, neqb→ne, allOf-append, all-at, all-one, all-none}
 use Rattle.grammar.proofs.Decimals.{digitOf}
 use Rattle.grammar.proofs.Numbers.{digit-is, digit-least, digit-most, Number, number-tests, number-from}
-use Rattle.lines.specs.Reads.{reading}
-use Rattle.lines.proofs.Telling.{tells, tells-not}
+use Rattle.letters.specs.Reads.{reading}
+use Rattle.letters.proofs.Telling.{tells, tells-not}
 
 -- ---- no number
 

@@ -15,10 +15,10 @@ use Rattle.grammar.specs.Words.{Edition}
 use Rattle.grammar.specs.Print.{Line, rowLine, recordLine, outside}
 use Rattle.grammar.specs.Line.{isNumber, numberOf, isVector, vectorOf, isLock, lockOf, isName, numberNamed, rowOf, recordIn}
 use Rattle.grammar.proofs.Tests.{when-true, when-false, all-at, all-cons, all-one}
-use Rattle.lines.specs.Reads.{reading}
-use Rattle.lines.proofs.Telling.{told, untold}
+use Rattle.letters.specs.Reads.{reading}
+use Rattle.letters.proofs.Telling.{told, untold}
 use Rattle.lines.proofs.ReadNumbers as Number
-use Rattle.lines.proofs.ReadVectors as Vector
+use Rattle.letters.proofs.ReadVectors as Vector
 use Rattle.lines.proofs.KindNames.{named}
 
 -- ---- rows

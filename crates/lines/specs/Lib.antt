@@ -1,4 +1,2 @@
 -- The definitions of `lines`.
-pub mod Reads
 pub mod Model
-pub mod Put

@@ -1,25 +1,21 @@
 -- What the values of the code's own types stand for.
 --   lies at bytes   the part of memory that a slice is: where it lies, and its bytes
---   lineModel       of a line found;   editionModel, openingModel   of an edition, and of what the opening of a text says
---   numberModel, vectorModel   of what a field tells
+--   lineModel       of a line found;   openingModel   of what the opening of a text says
+--   numberModel     of what a field tells
 use mathlib.Core.List.{List}
 use mathlib.Core.Option.{Option, some, none}
 use Prim.Native.Nat.{ℕ}
-use Rattle.vectors.specs.Row.{Row, row}
+use Rattle.vectors.specs.Row.{row}
 use Rattle.operations.specs.Record.{wordsOf}
-use Rattle.grammar.specs.Words.{Edition, edition1}
 use Rattle.grammar.specs.Cut.{Part}
 use Rattle.grammar.specs.Print.{Line, rowLine, recordLine, outside}
 use Rattle.grammar.specs.Lines.{Opening}
-use Rattle.lines.specs.declared.edition.Edition.{Edition as EditionCase}
-use Rattle.lines.specs.declared.edition.Edition.the-variants.{First}
-use Rattle.lines.specs.declared.edition.Opening.{Opening as OpeningFound}
+use Rattle.letters.specs.Model.{editionModel}
+use Rattle.lines.specs.declared.opening.Opening.{Opening as OpeningFound}
 use Rattle.lines.specs.declared.line.Found.{Found}
 use Rattle.lines.specs.declared.line.Found.the-variants.{Row as FoundRow, Record, Outside}
 use Rattle.lines.specs.declared.fields.NumberField.{NumberField}
 use Rattle.lines.specs.declared.fields.NumberField.the-variants.{Number, Bad}
-use Rattle.lines.specs.declared.fields.VectorField.{VectorField}
-use Rattle.lines.specs.declared.fields.VectorField.the-variants.{Vector, Bad as BadVector}
 
 abbrev pub lies : ℕ × ℕ → List ℕ → Part
 lies at bytes = record { block = at .0; offset = at .1; bytes = bytes }
@@ -32,13 +28,6 @@ lineModel Outside = outside
 abbrev pub numberModel : NumberField → Option ℕ
 numberModel (Number n) = some n
 numberModel Bad = none
-
-abbrev pub vectorModel : VectorField → Option Row
-vectorModel (Vector w m v) = some (row w m v)
-vectorModel BadVector = none
-
-abbrev pub editionModel : EditionCase → Edition
-editionModel First = edition1
 
 abbrev pub openingModel : OpeningFound → Opening
 openingModel o = record { edition = editionModel (o .edition); at = o .at; first = o .first }

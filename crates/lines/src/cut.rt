@@ -6,10 +6,6 @@ ghost use lib.ListN.{length, drop};
 ghost use Rattle.grammar.specs.Cut.{pieces, before, partEnds, partAt};
 ghost use Rattle.lines.specs.Model.{lies};
 
-pub const LF: u8 = b'\n';
-
-pub const TAB: u8 = b'\t';
-
 // Where the first byte `sep` stands from `from` on, or the length where there is none.
 pub fn end_of(text: &[u8], from: usize, sep: u8) -> usize
     requires { ⌜ from ≤ length (now text) ⌝ }

@@ -6,10 +6,11 @@ ghost use lib.ListN.{take};
 ghost use Rattle.operations.specs.Kinds.{kinds, kindCount, isKind, kindOf};
 ghost use Rattle.grammar.specs.Lists.{same};
 ghost use Rattle.grammar.specs.Line.{isLock, lockOf, isName, numberNamed};
-ghost use Rattle.lines.specs.Reads.{reading};
-ghost use Rattle.lines.specs.Model.{editionModel, numberModel};
-use crate::edition::Edition;
+ghost use Rattle.letters.specs.Reads.{reading};
+ghost use Rattle.letters.specs.Model.{editionModel};
+ghost use Rattle.lines.specs.Model.{numberModel};
 use crate::fields::NumberField;
+use letters::Edition;
 use operations::KINDS;
 use operations::name_byte;
 use operations::name_len;
@@ -81,13 +82,11 @@ fn kind_among(f: &[u8], n: u32) -> NumberField
     NumberField::Bad
 }
 
-// The kind that a field names.
+// The kind that a field names: every edition has all kinds.
 pub fn kind_of(e: Edition, f: &[u8]) -> NumberField
     ensures { λ r.
         let ks = editionModel e .operations in
         ⌜ numberModel r ≡ reading (isName (now (f .entry)) ks) (numberNamed (now (f .entry)) ks) ⌝ }
 {
-    match e {
-        Edition::First => kind_among(f, KINDS),
-    }
+    kind_among(f, KINDS)
 }

@@ -22,8 +22,8 @@ use Rattle.grammar.specs.Lines.{linesFrom, firstBad, wordsIn}
 use Rattle.grammar.proofs.Cuts.{before-le}
 use Rattle.grammar.proofs.Sorted.{bad-any}
 use Rattle.table_lines.specs.Fill.{RecordsWait, RecordsRead}
-use Rattle.lines.specs.Put.{Put}
-use Rattle.lines.proofs.Puts.{sets-append}
+use Rattle.printing.specs.Put.{Put}
+use Rattle.printing.proofs.Puts.{sets-append}
 use Rattle.table_lines.proofs.Surveys.{lines-on, lines-last, lines-end}
 
 pub record Filling (ed : Edition) (text : List ℕ) (from at i k n : ℕ) (ws ws′ : List ℕ) : Type 0 where

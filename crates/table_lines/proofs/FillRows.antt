@@ -21,7 +21,7 @@ use Rattle.grammar.specs.Lines.{linesFrom, firstBad, rowsIn, wordsIn}
 use Rattle.grammar.proofs.Cuts.{before-le}
 use Rattle.grammar.proofs.Sorted.{bad-any, no-rows-after}
 use Rattle.table_lines.specs.Fill.{RowsWait, RowsRead}
-use Rattle.lines.proofs.Puts.{sets-append}
+use Rattle.printing.proofs.Puts.{sets-append}
 use Rattle.table_lines.proofs.Surveys.{lines-on, lines-last, lines-end}
 
 none : LineRow

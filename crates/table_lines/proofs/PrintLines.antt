@@ -18,7 +18,7 @@ use Rattle.checks.specs.Table.{Table, recordOf}
 use Rattle.checks.specs.Model.{lent}
 use Rattle.bits.specs.Counted.{listed}
 use Rattle.grammar.specs.Print.{Line, rowLine, recordLine, lineText, linesText, lineRow, rowLines, recordLines}
-use Rattle.lines.proofs.PutLines.{rowText, recordText}
+use Rattle.printing.proofs.PutLines.{rowText, recordText}
 use Rattle.table_lines.specs.Print.{RecordsFit}
 
 -- ---- the lines of a table

@@ -1,15 +1,14 @@
 // Writing the lines of a table into a lent buffer (01, "Text": all row lines, then record lines).
-ghost use mathlib.Core.Path.{_≡_};
 ghost use mathlib.Core.List.{[]};
 ghost use Rattle.checks.specs.Model.{lent};
 ghost use Rattle.grammar.specs.Print.{linesText, rowLines, recordLines};
-ghost use Rattle.lines.specs.Put.{Holds, Put};
+ghost use Rattle.printing.specs.Put.{Holds, Put};
 ghost use Rattle.table_lines.specs.Print.{RowsFit, RecordsFit};
 use bits::wide;
 use checks::records::record_at;
-use lines::put::put_record;
-use lines::put::put_row;
 use operations::RECORD_WORDS;
+use printing::put::put_record;
+use printing::put::put_row;
 
 // Writes the row lines of a table.
 pub fn put_rows(out: &mut [u8], width: &[u8], lock: &[u8], mask: &[u32], value: &[u32]) -> usize

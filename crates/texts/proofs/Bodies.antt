@@ -5,18 +5,18 @@
 use mathlib.Core.Path.{_≡_, sym, ap, ap₂, _∙_}
 use mathlib.Core.Bool.{false}
 use mathlib.Core.List.{List}
-use Prim.Native.Nat.{ℕ, zero, suc, _-_, _≤_}
+use Prim.Native.Nat.{ℕ, _-_, _≤_}
 use native.Mathlib.Omega.{arith}
 use lib.ListN.{length, take, drop, length-drop}
 use lib.Seq.{take-all}
 use Rattle.grammar.specs.Limits.{textLimit}
 use Rattle.grammar.specs.Words.{Edition}
-use Rattle.grammar.specs.Print.{Line}
 use Rattle.grammar.specs.Lines.{linesFrom, Opening as Opened, opening, linesIn, firstBad}
 use Rattle.grammar.proofs.Openings.{opening-first, opening-inside, lines-after}
-use Rattle.grammar.proofs.Sorted.{bad-any}
-use Rattle.lines.specs.declared.edition.Opening.{Opening}
-use Rattle.lines.specs.Model.{editionModel, openingModel}
+use Rattle.grammar.proofs.Sorted.{bad-from-one}
+use Rattle.lines.specs.declared.opening.Opening.{Opening}
+use Rattle.letters.specs.Model.{editionModel}
+use Rattle.lines.specs.Model.{openingModel}
 use Rattle.texts.specs.Calls.{badLine}
 
 abbrev pub edition : Opening → Edition
@@ -24,10 +24,6 @@ edition o = editionModel (o .edition)
 
 abbrev pub body : List ℕ → Opening → List ℕ
 body text o = take (length text - o .at) (drop (o .at) text)
-
-from-one : (first : ℕ) (ls : List Line) → 1 ≤ first → firstBad false first ls ≡ 0 → firstBad false 1 ls ≡ 0
-from-one zero ls h e = absurd (omega arith)
-from-one (suc m) ls h e = bad-any false m 1 ls e
 
 module _ (text : List ℕ) (o : Opening) (opened : openingModel o ≡ opening text) where
   body-is : body text o ≡ drop (o .at) text
@@ -43,7 +39,7 @@ module _ (text : List ℕ) (o : Opening) (opened : openingModel o ≡ opening te
   bad-are = ap₂ (firstBad false) first-is (sym lines-are)
 
   pub good-lines : badLine text ≡ 0 → firstBad false 1 (linesFrom (edition o) (body text o)) ≡ 0
-  good-lines h = from-one (o .first) (linesFrom (edition o) (body text o)) (omega (arith, first-is, opening-first text .0)) (bad-are ∙ h)
+  good-lines h = bad-from-one (o .first) (linesFrom (edition o) (body text o)) (omega (arith, first-is, opening-first text .0)) (bad-are ∙ h)
 
   pub survey-waits : length text ≤ textLimit → (1 ≤ o .first) × (o .first ≤ textLimit) × (length (body text o) ≤ textLimit)
   survey-waits short = (

@@ -20,7 +20,7 @@ use Rattle.grammar.specs.Limits.{textLimit}
 use Rattle.grammar.specs.Lists.{filled}
 use Rattle.grammar.specs.Print.{LineRow, Line}
 use Rattle.grammar.specs.Lines.{linesFrom, opening, linesIn, rowsIn, wordsIn, tableIn, tableRead}
-use Rattle.lines.specs.declared.edition.Opening.{Opening}
+use Rattle.lines.specs.declared.opening.Opening.{Opening}
 use Rattle.lines.specs.Model.{openingModel}
 use Rattle.texts.specs.Calls.{textOver, badLine, rowsExceed, wordsExceed, readChecks, Counts, countsOf, ReadBack, readAs, readOf}
 use Rattle.texts.proofs.ReadChecks.{ReadPassed, answer-of-read}

@@ -35,8 +35,8 @@ use Rattle.texts.specs.Model.{bytesModel}
 use Rattle.texts.specs.declared.BytesAnswer.{BytesAnswer}
 use Rattle.texts.specs.declared.BytesAnswer.the-variants.{Bytes, Refused as NotBytes}
 use Rattle.table_lines.specs.Print.{RowsFit, RecordsFit}
-use Rattle.lines.specs.Put.{Holds, Put}
-use Rattle.lines.proofs.Puts.{put-length, sets-append}
+use Rattle.printing.specs.Put.{Holds, Put}
+use Rattle.printing.proofs.Puts.{put-length, sets-append}
 
 -- ---- what passing the checks gives
 

@@ -2,3 +2,4 @@
 pub mod RoundTrips
 pub mod TripCalls
 pub mod Worked
+pub mod Listings

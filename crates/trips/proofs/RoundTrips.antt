@@ -1,7 +1,7 @@
--- Demand 2 on texts: what was written reads back as that table, and what was read is written as those bytes. Assumes nothing.
+-- Demand 2 on texts: what was written reads back as that table, and what was read is written as its three-letter meaning. Assumes nothing.
 --   write-of-answer   what a write that is not refused says of the table and the buffer
 --   table-back        the text that was written is read as that table, the rest of the slices untouched
---   bytes-back        the table that was read is written as those bytes, the rest of the buffer untouched
+--   meaning-back      the table that was read is written as the meaning of the text, the rest of the buffer untouched
 use mathlib.Core.Path.{_≡_, refl, sym, ap, _∙_}
 use mathlib.Core.List.{List, [], _∷_, _++_}
 use Prim.Native.Nat.{ℕ, _≤_}
@@ -25,7 +25,7 @@ use Rattle.texts.specs.Calls.{bufferShort, writeChecks, Written, writtenAs, wri
 use Rattle.texts.proofs.ReadChecks.{ReadPassed, read-of-answer, answer-of-read}
 use Rattle.texts.proofs.ReadLeft.{part-back, read-parts}
 use Rattle.texts.proofs.WriteCall.{written}
-use Rattle.trips.specs.Trips.{Roomy, TableBack, BytesBack}
+use Rattle.trips.specs.Trips.{Roomy, TableBack, MeaningBack}
 
 -- ---- a write that is not refused
 
@@ -72,8 +72,8 @@ table-back t out lent k e n e′ R =
 
 -- ---- read, then written
 
-pub bytes-back : (text : List ℕ) (lent : Table) (out : List ℕ) (c : Counts) → readOf text lent .answer ≡ done c → BytesBack text lent out (writeOf (firstOf c (readOf text lent .slices)) out)
-bytes-back text lent out c e c′ e′ n w =
+pub meaning-back : (text : List ℕ) (lent : Table) (out : List ℕ) (c : Counts) → readOf text lent .answer ≡ done c → MeaningBack text lent out (writeOf (firstOf c (readOf text lent .slices)) out)
+meaning-back text lent out c e c′ e′ n w =
     let t = read-parts text lent c e in
     let t′ = read-parts text lent c′ e′ in
     let P = write-of-answer (tableRead text) out n (sym (ap (λ (x : Table). writeOf x out .answer) t′) ∙ w) in

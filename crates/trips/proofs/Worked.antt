@@ -13,7 +13,7 @@ use Rattle.operations.specs.Kind.{bytes}
 use Rattle.grammar.specs.Print.{digits, decimal, lettersOf, fieldsOf, joined, lineText, linesText, tableLines, textOf}
 use Rattle.grammar.specs.Cut.{pieces, before, past, partEnds, fieldEnds, fieldOf}
 use Rattle.grammar.specs.Line.{numeral, isNumber, numberOf, isVector, lineOf}
-use Rattle.grammar.specs.Lines.{linesOf, linesIn, firstBad, rowsIn, wordsIn, tableIn}
+use Rattle.grammar.specs.Lines.{headed, linesOf, linesIn, firstBad, rowsIn, wordsIn, tableIn}
 use Rattle.texts.specs.Calls.{readChecks, readOf}
 
 abbrev example : List ℕ
@@ -35,20 +35,20 @@ reads : readOf example slices
       answer = done (record { rows = 3; records = 1 });
       slices = lent (3 ∷ 3 ∷ 3 ∷ 9 ∷ []) (0 ∷ 0 ∷ 0 ∷ 9 ∷ []) (2 ∷ 0 ∷ 0 ∷ 9 ∷ []) (1 ∷ 3 ∷ 0 ∷ 9 ∷ []) (16 ∷ 2 ∷ 0 ∷ 1 ∷ 0 ∷ []);
     }
-unfolding readOf readChecks verdict pieces allOf same numeral isNumber numberOf isVector lineOf linesOf linesIn firstBad rowsIn wordsIn tableIn kinds
+unfolding readOf readChecks verdict pieces allOf same numeral isNumber numberOf isVector lineOf headed linesOf linesIn firstBad rowsIn wordsIn tableIn kinds
 reads = refl
 
 -- a row line after a record line, no final LF, a leading zero: each with its line, and the slices as they were
 late-row : readOf (bytes "op\tcopy\t2\t0\t0\t0\nrow\topen\t0X1\n") slices ≡ record { answer = refused 12 2; slices = slices }
-unfolding readOf readChecks verdict pieces allOf same numeral isNumber numberOf isVector lineOf linesOf linesIn firstBad rowsIn wordsIn tableIn kinds
+unfolding readOf readChecks verdict pieces allOf same numeral isNumber numberOf isVector lineOf headed linesOf linesIn firstBad rowsIn wordsIn tableIn kinds
 late-row = refl
 
 no-end : readOf (bytes "row\topen\t0X1\nrow\topen\t0X1") slices ≡ record { answer = refused 12 2; slices = slices }
-unfolding readOf readChecks verdict pieces allOf same numeral isNumber numberOf isVector lineOf linesOf linesIn firstBad rowsIn wordsIn tableIn
+unfolding readOf readChecks verdict pieces allOf same numeral isNumber numberOf isVector lineOf headed linesOf linesIn firstBad rowsIn wordsIn tableIn
 no-end = refl
 
 leading-zero : readOf (bytes "op\tcopy\t02\t0\t0\t0\n") slices ≡ record { answer = refused 12 1; slices = slices }
-unfolding readOf readChecks verdict pieces allOf same numeral isNumber numberOf isVector lineOf linesOf linesIn firstBad rowsIn wordsIn tableIn kinds
+unfolding readOf readChecks verdict pieces allOf same numeral isNumber numberOf isVector lineOf headed linesOf linesIn firstBad rowsIn wordsIn tableIn kinds
 leading-zero = refl
 
 -- the third field of the fourth line, and an empty part where there is none

@@ -1,14 +1,19 @@
--- The round trips through the text (demand 2), as statements about what the calls leave.
+-- The round trips through the text (demand 2, as 02, request 5, narrows it), as statements about what the calls leave.
 --   Roomy t lent                the lent slices are long enough for the table t
 --   TableBack t out lent got    got is what read leaves of the slices lent, on the text that write put into out: that table, the rest untouched
---   BytesBack text lent out got got is what write leaves of out, on the table that read put into the slices lent: those bytes, the rest untouched
+--   Back bytes text lent out got   got is what write leaves of out, on the table that read put into the slices lent: the bytes, the rest untouched
+--   MeaningBack, BytesBack      the bytes are the three-letter meaning of the text;   they are the text, where it has no header
 use mathlib.Core.Path.{_≡_}
+use mathlib.Core.Bool.{not}
 use mathlib.Core.List.{List}
 use Prim.Native.Nat.{ℕ, _≤_}
+use lib.Dec.{T}
 use lib.ListN.{length}
 use Rattle.checks.specs.Check.{done}
 use Rattle.checks.specs.Table.{Table}
 use Rattle.grammar.specs.Lists.{filled}
+use Rattle.grammar.specs.Lines.{headed}
+use Rattle.grammar.specs.Meaning.{meaningOf}
 use Rattle.texts.specs.Calls.{Written, writeOf, Counts, countsOf, ReadBack, filledWith, readOf, firstOf}
 
 pub record Roomy (t lent : Table) : Type 0 where
@@ -23,7 +28,15 @@ abbrev pub TableBack : Table → List ℕ → Table → ReadBack → Type 0
 TableBack t out lent got = (n : ℕ) → writeOf t out .answer ≡ done n → Roomy t lent → got ≡ record { answer = done (countsOf t); slices = filledWith t lent }
 
 -- a text that is read, and whose table is written
-abbrev pub BytesBack : List ℕ → Table → List ℕ → Written → Type 0
-BytesBack text lent out got =
+abbrev pub Back : List ℕ → List ℕ → Table → List ℕ → Written → Type 0
+Back bytes text lent out got =
     (c : Counts) → readOf text lent .answer ≡ done c → (n : ℕ) → writeOf (firstOf c (readOf text lent .slices)) out .answer ≡ done n
-    → got ≡ record { answer = done (length text); buffer = filled text out }
+    → got ≡ record { answer = done (length bytes); buffer = filled bytes out }
+
+-- "a nine-value text comes back as its three-letter meaning" (02, request 5)
+abbrev pub MeaningBack : List ℕ → Table → List ℕ → Written → Type 0
+MeaningBack text lent out got = Back (meaningOf text) text lent out got
+
+-- "the claim that bytes come back covers texts without the line" (02, request 5)
+abbrev pub BytesBack : List ℕ → Table → List ℕ → Written → Type 0
+BytesBack text lent out got = T (not (headed text)) → Back text text lent out got

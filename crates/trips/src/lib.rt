@@ -1,6 +1,6 @@
 // The round trips through the text over the calls themselves (demand 2): each contract is the round trip.
 ghost use Rattle.checks.specs.Model.{lent};
-ghost use Rattle.trips.specs.Trips.{TableBack, BytesBack};
+ghost use Rattle.trips.specs.Trips.{TableBack, MeaningBack, BytesBack};
 ghost use Rattle.texts.specs.Model.{writeLeft, readLeft};
 use operations::RECORD_WORDS;
 use texts::BytesAnswer;
@@ -35,8 +35,8 @@ pub fn write_then_read(
     }
 }
 
-// A text that is read into the slices is written back from there into `out`.
-pub fn read_then_write(
+// A text that is read into the slices, of any edition, is written from there into `out` as its three-letter meaning.
+pub fn listing_then_write(
     text: &[u8],
     width: &mut [u8],
     lock: &mut [u8],
@@ -47,7 +47,7 @@ pub fn read_then_write(
 ) -> BytesAnswer
     ensures { λ r.
         let slices = lent (now (width .entry)) (now (lock .entry)) (now (mask .entry)) (now (value .entry)) (now (words .entry)) in
-        ⌜ BytesBack (now (text .entry)) slices (now (out .entry)) (writeLeft r (now (out .exit))) ⌝ }
+        ⌜ MeaningBack (now (text .entry)) slices (now (out .entry)) (writeLeft r (now (out .exit))) ⌝ }
 {
     let found = read(text, width, lock, mask, value, words);
     match found {
@@ -64,4 +64,21 @@ pub fn read_then_write(
             )
         }
     }
+}
+
+// A text without a header that is read into the slices is written back from there into `out`.
+pub fn read_then_write(
+    text: &[u8],
+    width: &mut [u8],
+    lock: &mut [u8],
+    mask: &mut [u32],
+    value: &mut [u32],
+    words: &mut [u32],
+    out: &mut [u8],
+) -> BytesAnswer
+    ensures { λ r.
+        let slices = lent (now (width .entry)) (now (lock .entry)) (now (mask .entry)) (now (value .entry)) (now (words .entry)) in
+        ⌜ BytesBack (now (text .entry)) slices (now (out .entry)) (writeLeft r (now (out .exit))) ⌝ }
+{
+    listing_then_write(text, width, lock, mask, value, words, out)
 }

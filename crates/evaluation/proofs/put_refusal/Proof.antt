@@ -2,7 +2,7 @@
 use mathlib.Core.List.{[], _++_}
 use native.Mathlib.Omega.{arith}
 use Rattle.grammar.specs.Print.{decimal}
-use Rattle.lines.proofs.Puts.{begin, step, room, done}
+use Rattle.printing.proofs.Puts.{begin, step, room, done}
 use Rattle.evaluation.specs.Evaluate.{refusedLine}
 use Rattle.evaluation.proofs.Lines.{firstPart, tabPart, endPart, line-parts, line-fits, printed-of-put}
 use borrow.Author.Needs.{needs}

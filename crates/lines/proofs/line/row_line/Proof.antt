@@ -1,6 +1,7 @@
 -- `lines::line::row_line`, by its two fields. Assumes nothing.
 use mathlib.Core.Path.{sym, ap, _∙_}
-use Rattle.lines.specs.Model.{editionModel, numberModel, vectorModel}
+use Rattle.letters.specs.Model.{editionModel, vectorModel}
+use Rattle.lines.specs.Model.{numberModel}
 use Rattle.lines.proofs.ReadRecords.{row-no-lock, row-no-vector, row-good}
 use borrow.Author.Needs.{needs}
 use Rattle.lines.proofs.line.row_line.Statement.{statement}

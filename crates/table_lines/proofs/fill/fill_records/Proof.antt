@@ -3,7 +3,8 @@ use mathlib.Core.Path.{refl, ap}
 use Prim.Native.Nat.{_-_}
 use native.Mathlib.Omega.{arith}
 use borrow.Author.Needs.{needs}
-use Rattle.lines.specs.Model.{lineModel, editionModel}
+use Rattle.letters.specs.Model.{editionModel}
+use Rattle.lines.specs.Model.{lineModel}
 use Rattle.table_lines.proofs.FillRecords.{Filling, begin, same-length as kept, ends-in, no-row, no-outside, more, done, room}
 use Rattle.table_lines.proofs.fill.fill_records.Statement.{statement}
 use Rattle.table_lines.proofs.fill.fill_records.Tie as tie

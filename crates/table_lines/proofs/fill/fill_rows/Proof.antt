@@ -3,7 +3,8 @@ use mathlib.Core.Path.{ap}
 use Prim.Native.Nat.{_≤_, _-_}
 use native.Mathlib.Omega.{arith}
 use borrow.Author.Needs.{needs}
-use Rattle.lines.specs.Model.{lineModel, editionModel}
+use Rattle.letters.specs.Model.{editionModel}
+use Rattle.lines.specs.Model.{lineModel}
 use Rattle.table_lines.proofs.FillRows.{Filling, begin, lengths, ends-in, no-record, no-outside, more, done}
 use Rattle.table_lines.proofs.RowBytes.{bytes-fit}
 use Rattle.table_lines.proofs.fill.fill_rows.Statement.{statement}

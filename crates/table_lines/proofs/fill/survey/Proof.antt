@@ -5,7 +5,8 @@ use Prim.Native.Nat.{_-_}
 use native.Mathlib.Omega.{arith}
 use borrow.Author.Needs.{needs}
 use lib.ListN.{length}
-use Rattle.lines.specs.Model.{lineModel, editionModel}
+use Rattle.letters.specs.Model.{editionModel}
+use Rattle.lines.specs.Model.{lineModel}
 use Rattle.table_lines.proofs.Surveys.{Surveying, begin, no-end, outside-line, late-row, more-row, more-record, ended, with-counts}
 use Rattle.table_lines.proofs.fill.survey.Statement.{statement}
 use Rattle.table_lines.proofs.fill.survey.Tie as tie

@@ -7,8 +7,8 @@ use lib.ListN.{length}
 use Rattle.operations.specs.Limits.{recordWords}
 use Rattle.checks.specs.Model.{lent}
 use Rattle.grammar.specs.Print.{linesText, recordLines}
-use Rattle.lines.proofs.PutLines.{recordText}
-use Rattle.lines.proofs.Puts.{Writing, begin, step-on, room-on, done-on}
+use Rattle.printing.proofs.PutLines.{recordText}
+use Rattle.printing.proofs.Puts.{Writing, begin, step-on, room-on, done-on}
 use Rattle.table_lines.proofs.PrintLines.{records-from, records-begin, record-on, kind-in, records-end}
 use Rattle.table_lines.proofs.print.put_records.Statement.{statement}
 use Rattle.table_lines.proofs.print.put_records.Tie as tie

@@ -6,8 +6,8 @@ use native.Mathlib.Omega.{arith}
 use lib.ListN.{length, getD}
 use Rattle.checks.specs.Model.{lent}
 use Rattle.grammar.specs.Print.{linesText, rowLines}
-use Rattle.lines.proofs.PutLines.{rowText}
-use Rattle.lines.proofs.Puts.{Writing, begin, step-on, room-on, done-on}
+use Rattle.printing.proofs.PutLines.{rowText}
+use Rattle.printing.proofs.Puts.{Writing, begin, step-on, room-on, done-on}
 use Rattle.table_lines.proofs.PrintLines.{rows-from, rows-begin, row-on, rows-end}
 use Rattle.table_lines.proofs.print.put_rows.Statement.{statement}
 use Rattle.table_lines.proofs.print.put_rows.Tie as tie

@@ -1,0 +1,4 @@
+-- The laws and proofs of `letters`.
+pub mod Telling
+pub mod Among
+pub mod ReadVectors

@@ -1,0 +1,18 @@
+-- `letters::is_unknown`: the letters for X, by the edition. Assumes nothing.
+use Rattle.letters.proofs.Among.{in-edition}
+use borrow.Author.Needs.{needs}
+use Rattle.letters.proofs.is_unknown.Statement.{statement}
+use Rattle.letters.proofs.is_unknown.Tie as tie
+
+returns : tie.Need-returns
+returns c =
+    let t = c .before .before in
+    let a = t .before .before .args in in-edition (λ l. l .unknowns) (a .b) (a .e) _ (c .is-among .result) (t .enum-told .given .1) (c .is-among .ensures)
+
+returns-2 : tie.Need-returns-2
+returns-2 c =
+    let t = c .before .before in
+    let a = t .before .before .args in in-edition (λ l. l .unknowns) (a .b) (a .e) _ (c .is-among2 .result) (t .enum-told2 .given .1) (c .is-among2 .ensures)
+
+pub is-unknown-spec : {M : Type 1} → statement M
+is-unknown-spec = tie.close (tie.spec (λ c. search needs) (λ c. search needs) (λ c κs. search needs) (λ c. search needs) (λ c. search needs) (λ c κs. search needs) returns returns-2)

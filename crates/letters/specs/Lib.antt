@@ -1,0 +1,3 @@
+-- The definitions of `letters`.
+pub mod Reads
+pub mod Model

@@ -1,0 +1,4 @@
+-- The laws and proofs of `printing`.
+pub mod Puts
+pub mod PutWords
+pub mod PutLines

@@ -1,0 +1,3 @@
+// Words, numbers and lines written into a lent buffer (01, "Text").
+
+pub mod put; // put.rt: words, numbers and lines written

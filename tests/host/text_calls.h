@@ -1,0 +1,18 @@
+// Random calls on texts.
+#ifndef TEXT_CALLS_H
+#define TEXT_CALLS_H
+
+#include "compare.h"
+
+// rifflerleek_read and rifflerleek_field, on the library and the reference.
+void call_read(void);
+void call_field(void);
+
+// A text that the library reads, and whose table it then writes, must come back as those bytes, and a listing as its meaning in three
+// letters. The text of a table that passes the checks must come back.
+void call_trip(void);
+
+// How often each letter of a listing was read, each fault of a header was refused, and each edition came back, and how many never.
+int report_texts(void);
+
+#endif
