@@ -1,4 +1,4 @@
--- The grammar of a line, by its fields (01, "Text").
+-- The grammar of a line, by its fields (01, "Text"), in an edition.
 --   numeral base value n f   the number that the bytes of f stand for, after n
 --   isDigit b, leadingZero f a digit; more than one digit, the first of them 0
 --   isNumber f, numberOf f   a number of a record line, and which
@@ -42,7 +42,7 @@ numberOf f = numeral 10 (λ b. b - zeroByte) 0 f
 unfoldable pub isNumber : List ℕ → Bool
 isNumber f = leb 1 (length f) && allOf isDigit f && not (leadingZero f) && leb (numberOf f) numberLimit
 
--- ---- "1 to 32 letters of 0, 1, X"
+-- ---- "1 to 32 letters of 0, 1, X", or of the nine (02, request 5)
 
 abbrev pub isLetter : Alphabet → ℕ → Bool
 isLetter a b = isIn b (a .zeros) || isIn b (a .ones) || isIn b (a .unknowns)

@@ -1,4 +1,4 @@
--- The three-letter meaning of a text (02, request 5: "a nine-value text comes back as its three-letter meaning").
+-- The three-letter meaning of a text, a term of 02, request 5: "a nine-value text comes back as its three-letter meaning".
 --   letterMeant a b    0, 1 or X for a letter of the alphabet a, any other byte as it is
 --   fieldsMeant a fs   the fields of a line: the third of a row line letter by letter, all else as it is
 --   lineMeant a line   a line without its LF;   meaningOf text   a text: its header dropped, and each line

@@ -1,4 +1,4 @@
--- The words, letters and separators of the text, each in one place (01, "Text").
+-- The words, letters and separators of the text, each in one place (01, "Text"), and its editions (02, request 5).
 --   lf, tab            the byte that ends a line, and the one that parts its fields
 --   rowWord, opWord    the first field of a row line and of a record line;   lockWord l   the second of a row line: openWord or lockedWord
 --   zeroByte           the byte of the digit 0;   letter0, letter1, letterX   the letters of a vector
@@ -69,7 +69,7 @@ pub record Edition : Type 0 where
   pub operations : List Kind
   pub numbers : ℕ
 
--- every word of a record but the kind is a number of its line
+-- every word of a record but the kind is a number of its line; records are the same in both editions
 abbrev pub withLetters : Alphabet → Edition
 withLetters a = record { letters = a; operations = kinds; numbers = recordWords - 1 }
 

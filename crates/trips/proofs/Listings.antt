@@ -8,7 +8,7 @@ use Rattle.checks.specs.Table.{Table}
 use Rattle.checks.specs.Model.{lent}
 use Rattle.grammar.specs.Lists.{allOf, same}
 use Rattle.grammar.specs.Print.{joined}
-use Rattle.grammar.specs.Cut.{pieces}
+use Rattle.grammar.specs.Cut.{pieces, before, past, partEnds, fieldEnds, fieldOf}
 use Rattle.grammar.specs.Line.{numeral, isVector, lineOf}
 use Rattle.grammar.specs.Lines.{headed, linesOf, linesIn, firstBad, rowsIn, wordsIn, tableIn}
 use Rattle.grammar.specs.Meaning.{meaningOf}
@@ -33,6 +33,11 @@ means = refl
 header-alone : readOf (bytes "edition\t2\n") slices ≡ record { answer = done (record { rows = 0; records = 0 }); slices = slices }
 unfolding readOf readChecks verdict pieces allOf same lineOf headed linesOf linesIn firstBad rowsIn wordsIn tableIn
 header-alone = refl
+
+-- and is line 1 for field
+header-field : fieldOf (record { block = 5; offset = 100; bytes = listing }) 1 2 ≡ record { block = 5; offset = 108; bytes = bytes "2" }
+unfolding before past partEnds fieldEnds fieldOf
+header-field = refl
 
 -- refused as 12 at line n, the slices as they were
 abbrev Bad : List ℕ → ℕ → Type 0
