@@ -11,7 +11,7 @@ using Read = decltype(rifflerleek_read);
 
 inline constexpr std::size_t ROWS = RIFFLERLEEK_ROW_LIMIT, LINES = ROWS + RECORDS;
 
-// Room for every text of so many lines; before 02, request 1 write asked for as much.
+// Room for every text of ROWS rows and RECORDS records; before 02, request 1 write asked for as much.
 inline constexpr std::size_t MOST_BYTES = RIFFLERLEEK_ROW_BYTES * ROWS + RIFFLERLEEK_RECORD_BYTES * RECORDS;
 
 inline const Groups all_rows = {{32, 0, 200}, {16, 200, 28}, {1, 228, 28}};
@@ -54,7 +54,7 @@ inline Bytes text_of(Write *write, const Table &t)
     return out;
 }
 
-// The table that a text is read as, into slices as long as that table's, in which every bit is set before.
+// The table that a text is read as, into slices as long as those of `like`, in which every bit is set before.
 inline Table table_of(Read *read, const Bytes &text, const Table &like)
 {
     std::size_t rows = like.width.size();

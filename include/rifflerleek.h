@@ -155,10 +155,10 @@ rifflerleek_answer rifflerleek_write(const uint8_t *width, size_t widths, const 
  * elements after those are as they were. Refusals 2, 11, 12, 13: no element is changed. An empty text has no rows and no records,
  * nor has a header alone; the row slices may be longer than RIFFLERLEEK_ROW_LIMIT.
  *
- * Editions. The letters of a text are 0, 1, X. A text of edition 2, such as a simulator's listing, begins with a header, the ten
- * bytes "edition\t2\n", and has nine letters: 0 and L mean 0; 1 and H mean 1; U, X, Z, W and - mean X. All else is the same in both.
- * A text that was read and passes the table checks is what rifflerleek_write prints; of a text of edition 2 it prints the meaning:
- * no header, and 0, 1 or X for each letter. */
+ * Editions. A text without a header is of edition 1 and has the letters 0, 1, X. A text of edition 2, such as a simulator's listing,
+ * begins with a header, the ten bytes "edition\t2\n", and has nine letters: 0 and L mean 0; 1 and H mean 1; U, X, Z, W and - mean X.
+ * All else is the same in both. Where what was read passes the table checks, rifflerleek_write prints a text of edition 1 as it was,
+ * and of a text of edition 2 its meaning: no header, and 0, 1 or X for each letter. */
 rifflerleek_answer rifflerleek_read(const uint8_t *text, size_t text_length, uint8_t *width, size_t widths, uint8_t *lock,
                                     size_t locks, uint32_t *mask, size_t masks, uint32_t *value, size_t values,
                                     uint32_t *words, size_t word_count);

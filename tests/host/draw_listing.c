@@ -10,7 +10,7 @@ static const struct {
     const char *bytes;
     size_t line;
 } faults[HEADER_FAULTS] = {
-    {"", 1}, // letters of edition 2 without it
+    {"", 1}, // letters of edition 2 without it: line 1, where it has one of the six others
     {"edition\t0\n", 1},
     {"edition\t1\n", 1},
     {"edition\t3\n", 1},

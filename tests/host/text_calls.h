@@ -12,7 +12,8 @@ void call_field(void);
 // letters. The text of a table that passes the checks must come back.
 void call_trip(void);
 
-// How often each letter of a listing was read, each fault of a header was refused, and each edition came back, and how many never.
+// How often each letter of a listing was read, a header alone was, each fault of a header was refused, and each edition came back, and
+// how many of these never.
 int report_texts(void);
 
 #endif

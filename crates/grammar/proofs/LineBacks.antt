@@ -41,7 +41,7 @@ Shaped (rowLine r) = Unit {0}
 Shaped (recordLine words) = length words ≡ recordWords
 Shaped outside = Unit {0}
 
--- the line l was read from the fields fs
+-- the line l was read from the fields fs with the alphabet a, and has the fields that they mean
 abbrev pub ReadFrom : Alphabet → List (List ℕ) → Line → Type 0
 ReadFrom a fs l = T (not (isOutside l)) → (fieldsOf l ≡ fieldsMeant a fs) × Shaped l
 

@@ -1,5 +1,5 @@
 -- A text without a header means itself. Assumes nothing.
---   fields-same   so do the fields of a line in the three letters;   meaning-same   and so the text
+--   meaning-same   that
 use mathlib.Core.Path.{_≡_, refl, sym, ap, _∙_}
 use mathlib.Core.Bool.{cond, not, _||_, false}
 use mathlib.Core.Logic.{inl, inr}

@@ -3,6 +3,7 @@
 --   linesOf e ps          the lines of a text cut at LF, read by the edition e;   linesFrom e text   those of a text, or of the rest of one
 --   headed text           the first line is edition 2's header
 --   Opening, opening text what the first line says: the edition of the text, and where and with which number its first row or record line begins
+--   headedOpening, bareOpening   the two openings: of edition 2, after its header, and of edition 1, at once
 --   linesIn text          the row lines and record lines of a text
 --   firstBad later n ls   the number of the first bad line, counted on from n, or 0 where there is none
 --   rowsIn, wordsIn       the rows and the record words of lines
@@ -40,9 +41,17 @@ pub record Opening : Type 0 where
 unfoldable pub headed : List ℕ → Bool
 headed text = same (take (length header2) text) header2
 
--- "A text without that line keeps the three letters." The header counts as line 1; any other first line is one of edition 1, or outside the grammar.
+-- of edition 2: its header counts as line 1
+abbrev pub headedOpening : Opening
+headedOpening = record { edition = edition2; at = length header2; first = 2 }
+
+-- of edition 1: there is no header
+abbrev pub bareOpening : Opening
+bareOpening = record { edition = edition1; at = 0; first = 1 }
+
+-- "A text without that line keeps the three letters." "Any other edition number is a line outside the grammar": of edition 1. (02, request 5)
 unfoldable pub opening : List ℕ → Opening
-opening text = cond (headed text) (record { edition = edition2; at = length header2; first = 2 }) (record { edition = edition1; at = 0; first = 1 })
+opening text = cond (headed text) headedOpening bareOpening
 
 -- Whoever unfolds the lines unfolds the opening with them.
 unfoldable pub linesIn : List ℕ → List Line

@@ -12,7 +12,7 @@ pub struct Opening {
     pub first: usize,
 }
 
-// The bytes of a header line.
+// The number of bytes of the header, its LF counted.
 const HEADER: usize = 10;
 
 // Is the first line the header of edition 2?

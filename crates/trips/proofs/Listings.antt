@@ -1,4 +1,4 @@
--- A simulator's listing, and headers that read refuses, computed over the definitions (02, request 5). Assumes nothing.
+-- A simulator's listing, and headers and letters that read refuses, computed over the definitions (02, request 5). Assumes nothing.
 use mathlib.Core.Path.{_≡_, refl}
 use mathlib.Core.List.{List, [], _∷_}
 use Prim.Native.Nat.{ℕ}
@@ -47,10 +47,15 @@ other-edition : Bad (bytes "edition\t1\n") 1 × Bad (bytes "edition\t3\n") 1 × 
 unfolding readOf readChecks verdict pieces allOf same lineOf headed linesOf linesIn firstBad rowsIn wordsIn tableIn
 other-edition = (refl, refl, refl)
 
-no-header : Bad (bytes "edition\t2") 1 × Bad (bytes "row\topen\t1\nrow\topen\tZ\n") 2
-unfolding readOf readChecks verdict pieces allOf same numeral isVector lineOf headed linesOf linesIn firstBad rowsIn wordsIn tableIn
-no-header = (refl, refl)
+no-end : Bad (bytes "edition\t2") 1
+unfolding readOf readChecks verdict pieces allOf same lineOf headed linesOf linesIn firstBad rowsIn wordsIn tableIn
+no-end = refl
 
-later-header : Bad (bytes "edition\t2\nedition\t2\n") 2 × Bad (bytes "row\topen\t1\nedition\t2\n") 2 × Bad (bytes "edition\t2\nrow\topen\tH\nrow\topen\th\n") 3
+later-header : Bad (bytes "edition\t2\nedition\t2\n") 2 × Bad (bytes "row\topen\t1\nedition\t2\n") 2
 unfolding readOf readChecks verdict pieces allOf same numeral isVector lineOf headed linesOf linesIn firstBad rowsIn wordsIn tableIn
-later-header = (refl, refl, refl)
+later-header = (refl, refl)
+
+-- Z without the header, and a small letter
+other-letter : Bad (bytes "row\topen\t1\nrow\topen\tZ\n") 2 × Bad (bytes "edition\t2\nrow\topen\tH\nrow\topen\th\n") 3
+unfolding readOf readChecks verdict pieces allOf same numeral isVector lineOf headed linesOf linesIn firstBad rowsIn wordsIn tableIn
+other-letter = (refl, refl)

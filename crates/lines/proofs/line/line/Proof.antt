@@ -5,11 +5,11 @@ use Prim.Native.Nat.{ℕ}
 use native.Mathlib.Omega.{arith}
 use denote.Ref.{ptr, now}
 use Rattle.grammar.specs.Lists.{same}
-use Rattle.grammar.specs.Words.{tab, rowWord, opWord, Edition}
+use Rattle.grammar.specs.Words.{tab, rowWord, opWord}
 use Rattle.grammar.specs.Cut.{pieces}
 use Rattle.letters.specs.Model.{editionModel}
 use Rattle.lines.specs.Model.{lies, lineModel}
-use Rattle.lines.proofs.Editions.{letters-alone}
+use Rattle.lines.proofs.Editions.{four-numbers}
 use Rattle.lines.proofs.Scans.{part-bytes}
 use Rattle.lines.proofs.ReadLines.{line-short-row, line-row, line-short-record, line-record, line-other}
 use borrow.Author.Needs.{needs}
@@ -56,7 +56,7 @@ returns-3 c =
     let p10 = p8 .before .before in
     let l = p10 .args .l .now in
     let e = editionModel (p10 .args .e) in
-    let four = ap (λ (x : Edition). x .numbers) (letters-alone (p10 .args .e)) in
+    let four = four-numbers (p10 .args .e) in
     let head = part-bytes (lies (ptr (p10 .args .l)) (now (p10 .args .l))) (lies (ptr (p7 .part .result)) (now (p7 .part .result))) tab 1 (p7 .part .ensures) in
     let is-row = p5 .is-word .ensures ∙ ap (λ (x : List ℕ). same x rowWord) head in
     let is-op = p2 .is-word2 .ensures ∙ ap (λ (x : List ℕ). same x opWord) head in
