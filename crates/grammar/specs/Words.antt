@@ -69,13 +69,15 @@ pub record Edition : Type 0 where
   pub operations : List Kind
   pub numbers : ℕ
 
--- every word of a record but the kind is a number of its line; records are the same in both editions
+-- "`op`, the operation's name as above, t, a, b, p" (01, "Text"), in both editions: every word of a record but the kind is a number of its line
 abbrev pub withLetters : Alphabet → Edition
 withLetters a = record { letters = a; operations = kinds; numbers = recordWords - 1 }
 
+-- "letters of 0, 1, X" (01, "Text")
 abbrev pub edition1 : Edition
 edition1 = withLetters threeLetters
 
+-- "all nine IEEE 1164 letters" (02, request 5)
 abbrev pub edition2 : Edition
 edition2 = withLetters nineLetters
 

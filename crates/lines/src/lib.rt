@@ -1,7 +1,7 @@
 // Lines of a text and their parts, read from its bytes (01, "Text").
 
 pub mod cut; // cut.rt: parts of a text
-pub mod fields; // fields.rt: what a field tells
+pub mod fields; // fields.rt: the number that a field tells
 pub mod limits; // limits.rt: numbers that 01 sets
 pub mod line; // line.rt: what a line tells
 pub mod opening; // opening.rt: what the first line says
