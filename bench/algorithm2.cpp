@@ -92,28 +92,50 @@ void set_bit(Planes &c, const ColumnSums &h, uint32_t k)
         c.value |= static_cast<uint32_t>(zeta(h.min, k) & 1) << k;
 }
 
+// Lines 2 to 5.
+struct Reversed {
+    Planes a, b;
+};
+
+Reversed reverses(Planes a, Planes b)
+{
+    return {{reversed(a.mask), reversed(a.value)}, {reversed(b.mask), reversed(b.value)}};
+}
+
+// Lines 7 to 45: column k.
+void set_column(Planes &c, Planes a, Planes b, const Reversed &rev, uint32_t k)
+{
+    uint32_t shift = WORD - k - 1; // equation 47: bits W-k-1 to W-1 of the reversed words
+    Planes a_column = {rev.a.mask >> shift, rev.a.value >> shift};
+    Planes b_column = {rev.b.mask >> shift, rev.b.value >> shift};
+    Factors f = settle_single(a, b, a_column, b_column);
+    uint32_t d = a.mask & b_column.mask; // line 13
+    if (d != 0) { // line 14
+        uint32_t i = static_cast<uint32_t>(__builtin_ctz(d)); // line 15
+        if (d != uint32_t{1} << i) { // line 16
+            c.mask |= uint32_t{1} << k; // line 17, theorem 4
+            return; // line 18
+        }
+        settle_double(f, i, k);
+    }
+    set_bit(c, column_sums(f, k), k);
+}
+
 } // namespace
 
-Planes algorithm2(uint32_t w, uint32_t ma, uint32_t va, uint32_t mb, uint32_t vb)
+// Flattened: all that it calls is inlined, though algorithm2_bit calls it too.
+[[gnu::flatten]] Planes algorithm2(uint32_t w, uint32_t ma, uint32_t va, uint32_t mb, uint32_t vb)
 {
-    Planes a_rev = {reversed(ma), reversed(va)}; // lines 2 and 4
-    Planes b_rev = {reversed(mb), reversed(vb)}; // lines 3 and 5
-    Planes c = {0, 0};
-    for (uint32_t k = 0; k < w; k++) { // line 6
-        uint32_t shift = WORD - k - 1; // equation 47: bits W-k-1 to W-1 of the reversed words
-        Planes a_column = {a_rev.mask >> shift, a_rev.value >> shift};
-        Planes b_column = {b_rev.mask >> shift, b_rev.value >> shift};
-        Factors f = settle_single({ma, va}, {mb, vb}, a_column, b_column);
-        uint32_t d = ma & b_column.mask; // line 13
-        if (d != 0) { // line 14
-            uint32_t i = static_cast<uint32_t>(__builtin_ctz(d)); // line 15
-            if (d != uint32_t{1} << i) { // line 16
-                c.mask |= uint32_t{1} << k; // line 17, theorem 4
-                continue; // line 18
-            }
-            settle_double(f, i, k);
-        }
-        set_bit(c, column_sums(f, k), k);
-    }
+    Planes a = {ma, va}, b = {mb, vb}, c = {0, 0};
+    Reversed rev = reverses(a, b);
+    for (uint32_t k = 0; k < w; k++) // line 6
+        set_column(c, a, b, rev, k);
     return c; // line 47
+}
+
+[[gnu::flatten]] uint32_t algorithm2_bit(uint32_t ma, uint32_t va, uint32_t mb, uint32_t vb, uint32_t k)
+{
+    Planes a = {ma, va}, b = {mb, vb}, c = {0, 0};
+    set_column(c, a, b, reverses(a, b), k);
+    return c.mask != 0 ? 2 : c.value >> k;
 }

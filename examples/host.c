@@ -62,6 +62,19 @@ static void count(size_t row)
         printf("row %zu: %zu unknown bits, %llu numbers\n", row, a.result, (unsigned long long)a.second_result);
 }
 
+// The product of two bare vectors of width 4, bit by bit: this needs no table.
+static void product(void)
+{
+    char letters[] = "????";
+    for (uint32_t bit = 0; bit < 4; bit++) {
+        rifflerleek_answer a = rifflerleek_product_bit(4, 0, 3, 2, 1, bit);
+        if (refused("product_bit", a))
+            return;
+        letters[3 - bit] = a.result == RIFFLERLEEK_UNKNOWN_BIT ? 'X' : a.result == 1 ? '1' : '0';
+    }
+    printf("0011 times 00X1: %s\n", letters);
+}
+
 int main(void)
 {
     if (!load(text))
@@ -79,5 +92,7 @@ int main(void)
 
     if (load("row\topen\t0X\nop\tadd\t0\t0\t00\t0\n")) // 0 is written with one digit
         return 1;
+
+    product(); // 3 or 9
     return 0;
 }

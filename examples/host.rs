@@ -7,6 +7,7 @@ mod host {
     pub const RECORD_LIMIT: usize = 1024;
     pub const RECORD_WORDS: usize = 5;
     pub const DONE: u32 = 0;
+    pub const UNKNOWN_BIT: usize = 2;
 
     #[repr(C)]
     pub struct Answer {
@@ -25,6 +26,7 @@ mod host {
         pub fn rifflerleek_write(width: *const u8, widths: usize, lock: *const u8, locks: usize, mask: *const u32, masks: usize, value: *const u32, values: usize, words: *const u32, word_count: usize, out: *mut u8, out_length: usize) -> Answer;
         pub fn rifflerleek_read(text: *const u8, text_length: usize, width: *mut u8, widths: usize, lock: *mut u8, locks: usize, mask: *mut u32, masks: usize, value: *mut u32, values: usize, words: *mut u32, word_count: usize) -> Answer;
         pub fn rifflerleek_field(text: *const u8, text_length: usize, line: usize, field: usize) -> Answer;
+        pub fn rifflerleek_product_bit(width: u32, mask_a: u32, value_a: u32, mask_b: u32, value_b: u32, bit: u32) -> Answer;
     }
 }
 
@@ -100,6 +102,21 @@ fn field(text: &str, line: usize, field: usize) -> &str {
     &text[a.result..a.second_result as usize]
 }
 
+/// A vector that stands in no table.
+struct Bare {
+    mask: u32,
+    value: u32,
+}
+
+/// The bits of a product, as letters, the highest first.
+fn product(width: u32, a: &Bare, b: &Bare) -> Result<String, Refusal> {
+    let letter = |bit| {
+        let (number, _) = result(unsafe { host::rifflerleek_product_bit(width, a.mask, a.value, b.mask, b.value, bit) })?;
+        Ok(if number == host::UNKNOWN_BIT { 'X' } else if number == 1 { '1' } else { '0' })
+    };
+    (0..width).rev().map(letter).collect()
+}
+
 const TEXT: &str = "row\tlocked\t0000XXXX
 row\tlocked\t01000000
 row\tlocked\t10000000
@@ -137,5 +154,9 @@ fn main() {
     if let Err(r) = Table::read(bad.as_bytes()) {
         println!("read: refusal {} at {}", r.number, r.place);
         println!("its second field: {}", field(bad, r.place, 2));
+    }
+    match product(4, &Bare { mask: 0, value: 3 }, &Bare { mask: 2, value: 1 }) {
+        Ok(letters) => println!("0011 times 00X1: {letters}"), // 3 or 9
+        Err(r) => println!("product_bit: refusal {} at {}", r.number, r.place),
     }
 }

@@ -8,6 +8,9 @@
  *   value[i]  bit k is the row's bit k where that is known, and 0 where it is unknown
  *   words     per record: kind, target row t, operand rows a and b, parameter p; an unused word is 0
  *
+ * Bare vectors. A call on bare vectors takes no table. It is passed, as numbers, one width and a mask and a value for each vector,
+ * with the same meaning as a row's.
+ *
  * Slices. A slice is passed as a pointer and its number of elements. The pointer is aligned and not NULL, also where the number
  * is 0, and a slice that a call may write overlaps no other slice of that call.
  *
@@ -31,7 +34,7 @@ extern "C" {
 
 /* Rises by one with every change that a host can see: of a name, a number, a call, an answer or a lent byte. The header that had
  * no version is version 1. CHANGELOG.md names the changes. */
-#define RIFFLERLEEK_VERSION 7
+#define RIFFLERLEEK_VERSION 8
 
 /* Limits. */
 #define RIFFLERLEEK_ROW_LIMIT 256      /* rows in a table */
@@ -47,18 +50,21 @@ extern "C" {
 #define RIFFLERLEEK_ROW_BYTES 44
 #define RIFFLERLEEK_RECORD_BYTES 24
 
+#define RIFFLERLEEK_UNKNOWN_BIT 2 /* result of rifflerleek_product_bit: the bit is unknown (X) */
+
 /* The calls inside the library. No function of it calls itself, directly or through others, calls one through a pointer, or calls one
  * of another library. depth: the most functions that are active at once, the call among them. stack: the most bytes of stack that are
  * taken, from the call's return address down; arguments that stand above it are the caller's. bash tests/host/depth reads both off the
  * machine code of the archive and compares them with these; they are not proved.
  *
- *   call               depth  stack
- *   rifflerleek_run        4    728
- *   rifflerleek_count      1     40
- *   rifflerleek_size       3    372
- *   rifflerleek_write      3    628
- *   rifflerleek_read       3    488
- *   rifflerleek_field      1     16
+ *   call                     depth  stack
+ *   rifflerleek_run              4    728
+ *   rifflerleek_count            1     40
+ *   rifflerleek_size             3    372
+ *   rifflerleek_write            3    628
+ *   rifflerleek_read             3    488
+ *   rifflerleek_field            1     16
+ *   rifflerleek_product_bit      2    424
  */
 #define RIFFLERLEEK_DEPTH_LIMIT 4   /* the greatest depth of a call */
 #define RIFFLERLEEK_STACK_LIMIT 728 /* the greatest stack of a call, in bytes */
@@ -105,15 +111,17 @@ enum {
  *                      (run alone) 10; then (write alone) 14
  *   count              1, 2; then the rows from 0 on, at each 4 before 5; then 7
  *   read               2, 11, 12, 13; the table that was read is checked by run, size and write, not by read
- *   field              never refuses */
+ *   field              never refuses
+ *   product_bit        4, 5, 15 */
 enum {
     RIFFLERLEEK_DONE = 0,            /* no refusal */
     RIFFLERLEEK_REFUSED_ROWS = 1,    /* the width slice has no row, or more than the row limit; place 0 */
     RIFFLERLEEK_REFUSED_LENGTHS = 2, /* the four row slices differ in length; place 0 */
     RIFFLERLEEK_REFUSED_RECORDS = 3, /* the words are not whole records, or more than the record limit; in run also: first is after
                                         last, or last is past the end; place 0 */
-    RIFFLERLEEK_REFUSED_WIDTH = 4,   /* a width is 0 or over the width limit, or a lock is over 1; the row */
-    RIFFLERLEEK_REFUSED_VECTOR = 5,  /* mask and value share a set bit, or one has a bit at or above the width; the row */
+    RIFFLERLEEK_REFUSED_WIDTH = 4,   /* a width is 0 or over the width limit, or a lock is over 1; the row (of product_bit: 0) */
+    RIFFLERLEEK_REFUSED_VECTOR = 5,  /* mask and value share a set bit, or one has a bit at or above the width; the row (of
+                                        product_bit: 0) */
     RIFFLERLEEK_REFUSED_KIND = 6,    /* no kind has this number; the record */
     RIFFLERLEEK_REFUSED_ROW = 7,     /* a used row word is outside the table; the record (of count: the row named) */
     RIFFLERLEEK_REFUSED_WORD = 8,    /* an unused word is not 0, or a parameter is over the parameter limit; the record */
@@ -124,7 +132,8 @@ enum {
                                         line, from 1 (for a missing LF the last line). A header is line 1; on a later line, or of
                                         another edition than 2, it is outside the grammar */
     RIFFLERLEEK_REFUSED_ROOM = 13,   /* row lines or record words exceed the lent slices; place 0 */
-    RIFFLERLEEK_REFUSED_BUFFER = 14  /* the output buffer is shorter than the table's text; place 0 */
+    RIFFLERLEEK_REFUSED_BUFFER = 14, /* the output buffer is shorter than the table's text; place 0 */
+    RIFFLERLEEK_REFUSED_BIT = 15     /* the bit number is at or above the width; place 0 */
 };
 
 /* Runs the records from first up to but not including last, after a check of the whole table. result is last, and mask and value
@@ -167,6 +176,12 @@ rifflerleek_answer rifflerleek_read(const uint8_t *text, size_t text_length, uin
  * as a line. The field is the bytes text[result] up to but not including text[second_result]. Where there is no such field both
  * ends are the same: number 0 names the start of the text or of the line, a number too high its end. Never refuses. */
 rifflerleek_answer rifflerleek_field(const uint8_t *text, size_t text_length, size_t line, size_t field);
+
+/* One bit of the product of two bare vectors, modulo 2^width, as RIFFLERLEEK_KIND_MUL gives it; bit is its number, from 0. result is the
+ * bit, 0 or 1, where it is the same for every choice of numbers that the two vectors cover, else RIFFLERLEEK_UNKNOWN_BIT. The operands
+ * are independent, also where both vectors are equal. Refusals 4, 5, 15. */
+rifflerleek_answer rifflerleek_product_bit(uint32_t width, uint32_t mask_a, uint32_t value_a, uint32_t mask_b, uint32_t value_b,
+                                           uint32_t bit);
 
 #ifdef __cplusplus
 }

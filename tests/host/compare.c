@@ -6,7 +6,7 @@
 
 enum { GUARD = 64 };
 
-const char *const call_names[CALLS] = {"run", "count", "size", "write", "read", "listing", "field"};
+const char *const call_names[CALLS] = {"run", "count", "size", "write", "read", "listing", "field", "product_bit"};
 unsigned seen[CALLS][REFUSALS];
 size_t call_number;
 
@@ -70,4 +70,18 @@ void compare(int name, rifflerleek_answer a, struct ref_answer b)
         free(l->reference);
     }
     seen[name][b.refusal]++;
+}
+
+int report_counts(const char *name, const char *each, const unsigned *counts, int number)
+{
+    int missing = 0;
+    printf("%s:", name);
+    for (int i = 0; i < number; i++) {
+        if (each != NULL)
+            printf(" %c", each[i]);
+        printf(" %u", counts[i]);
+        missing += counts[i] == 0;
+    }
+    printf("\n");
+    return missing;
 }

@@ -59,28 +59,13 @@ static void damage_row(struct draft *d)
         d->lock[i] = locks[below(4)];
 }
 
-static void damage_vector(struct draft *d)
+static void damage_row_vector(struct draft *d)
 {
     size_t i = below(d->widths);
-    unsigned w = d->width[i];
-    uint32_t inside = (uint32_t)1 << below(w > 0 && w < 33 ? w : 1);
-    uint32_t above = w < 32 ? (uint32_t)1 << (w + below(32 - w)) : 0;
-    if (percent(40))
-        d->mask[i] |= above;
-    else if (percent(60))
-        d->value[i] |= above;
-    else {
-        d->mask[i] |= inside;
-        d->value[i] |= inside;
-    }
-}
-
-// A number that a careless cast would take for a small one, among them.
-static uint32_t far_off(uint32_t limit)
-{
-    uint32_t small = (uint32_t)below(limit);
-    uint32_t far[] = {limit, limit + 1, limit + small, 256 + small, 65536 + small, 0x80000000u + small, UINT32_MAX};
-    return far[below(7)];
+    struct ref_vector v = {d->mask[i], d->value[i]};
+    damage_vector(&v, d->width[i]);
+    d->mask[i] = v.mask;
+    d->value[i] = v.value;
 }
 
 static void damage_record(struct draft *d, unsigned number)
@@ -110,7 +95,7 @@ void damage_table(struct draft *d, unsigned number)
     else if (d->widths > 0 && number == 4)
         damage_row(d);
     else if (d->widths > 0 && number == 5)
-        damage_vector(d);
+        damage_row_vector(d);
     else if (d->widths > 0 && d->word_count >= 5 && number >= 6)
         damage_record(d, number);
 }

@@ -1,15 +1,16 @@
 // Random calls, valid and damaged: the library and the reference must give the same answer and leave the same bytes, also
 // around and beyond what they write; and a text that was read must be written back as it should. Every answer of every call, and every
-// kind of record, must occur, each kind of two operands also with one row named twice, and what report_texts counts; and no call may
-// take more stack than the header says, which tests/host/depth reads off the archive.
+// kind of record, must occur, each kind of two operands also with one row named twice, and what report_texts and report_vectors count; and
+// no call may take more stack than the header says, which tests/host/depth reads off the archive.
 // usage: differential [SEED [CALLS]]
 #include "text_calls.h"
+#include "vector_calls.h"
 #include <stdio.h>
 #include <stdlib.h>
 #include <time.h>
 
 // The answers that each call has, as bits: bit 0 for a result, bit n for refusal n.
-static const unsigned answers[CALLS] = {0x7ff, 0x0b7, 0x3ff, 0x43ff, 0x3805, 0x3805, 0x0001};
+static const unsigned answers[CALLS] = {0x7ff, 0x0b7, 0x3ff, 0x43ff, 0x3805, 0x3805, 0x0001, 0x8031};
 
 static unsigned steps[KINDS], steps_twice[KINDS];
 
@@ -95,16 +96,16 @@ static void call_write(void)
     }
 }
 
-// How often each answer, each kind and what texts must have was seen, and how many were not.
+// How often each answer, each kind and what texts and bare vectors must have was seen, and how many were not.
 static int report(void)
 {
     int missing = 0;
     unsigned all[REFUSALS] = {0};
-    printf("refusal:");
+    printf("%-11s", "refusal:");
     for (int n = 0; n < REFUSALS; n++)
         printf(n == 0 ? "   none" : "%6d", n);
     for (int name = 0; name <= CALLS; name++) {
-        printf("\n%-8s", name < CALLS ? call_names[name] : "all");
+        printf("\n%-11s", name < CALLS ? call_names[name] : "all");
         for (int n = 0; n < REFUSALS; n++) {
             unsigned count = name < CALLS ? seen[name][n] : all[n];
             all[n] += name < CALLS ? count : 0;
@@ -124,14 +125,16 @@ static int report(void)
             missing += steps_twice[k] == 0;
         }
     printf("\n");
-    return missing + report_texts();
+    missing += report_texts();
+    return missing + report_vectors();
 }
 
 int main(int argc, char **argv)
 {
-    static void (*const calls[])(void) = {call_run, call_run, call_run, call_run, call_count, call_size, call_write, call_read, call_read, call_field, call_trip};
+    static void (*const calls[])(void) = {call_run,  call_run,  call_run,   call_run,  call_count,       call_size,       call_write,
+                                          call_read, call_read, call_field, call_trip, call_product_bit, call_product_bit};
     uint64_t from = argc > 1 ? strtoull(argv[1], NULL, 10) : 1;
-    size_t count = argc > 2 ? strtoull(argv[2], NULL, 10) : 100000;
+    size_t count = argc > 2 ? strtoull(argv[2], NULL, 10) : 120000;
     printf("seed %llu, %zu calls\n", (unsigned long long)from, count);
     fflush(stdout);
     seed(from);

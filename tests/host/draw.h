@@ -1,11 +1,11 @@
-// Random tables and texts, valid and damaged.
+// Random vectors, tables and texts, valid and damaged.
 #ifndef DRAW_H
 #define DRAW_H
 
 #include "reference.h"
 
-// Enough for every text of 40,000 bytes.
-enum { MAX_ROWS = 4000, MAX_WORDS = 15000, MAX_TEXT = 60000, LIMIT = 14 };
+// Enough for every text of 40,000 bytes; 2^LIMIT choices of operands for a bit; the styles of draw_vector.
+enum { MAX_ROWS = 4000, MAX_WORDS = 15000, MAX_TEXT = 60000, LIMIT = 14, STYLES = 10 };
 
 // A table with slices of any lengths, and a stretch.
 struct draft {
@@ -29,10 +29,23 @@ uint64_t draw(void);
 size_t below(size_t n);
 int percent(unsigned p);
 
+// A width, 1 to 32; a vector of it, whose unknown bits are by its style: 0 none, 1 all, 2 to 4 any, else few.
+unsigned draw_width(void);
+struct ref_vector draw_vector(unsigned width, size_t style);
+
+// A bit that mask and value share, or a bit at or above the width, where there is one.
+void damage_vector(struct ref_vector *v, uint32_t width);
+
+// The limit, 1 to 256, or a number over it; some of them a careless cast would take for small ones.
+uint32_t far_off(uint32_t limit);
+
+// Two bare vectors of one width, often equal, and the number of a bit: half of them with up to four faults.
+void draw_operands(struct ref_operands *o);
+
 // The five slices of a draft.
 struct ref_table slices(struct draft *d);
 
-// A table that run accepts, with a stretch whose steps take at most 2^LIMIT choices a bit.
+// A table that run accepts, with a stretch in which 2^LIMIT choices settle each bit.
 void draw_table(struct draft *d);
 
 // One fault after the condition of refusal number 1 to 10. The table may still be accepted.

@@ -33,14 +33,6 @@ struct ref_table slices(struct draft *d)
                               d->widths, d->locks, d->masks, d->values, d->word_count};
 }
 
-static unsigned draw_width(void)
-{
-    static const unsigned edges[] = {1, 31, 32, 32};
-    if (percent(15))
-        return edges[below(4)];
-    return (unsigned)(percent(60) ? 1 + below(6) : percent(50) ? 7 + below(10) : 17 + below(16));
-}
-
 // A few widths that go together, so that records of every kind find rows that fit.
 static void draw_widths(struct draft *d)
 {
@@ -50,22 +42,13 @@ static void draw_widths(struct draft *d)
         d->width[i] = (uint8_t)pool[below(12)];
 }
 
-static uint32_t few_bits(unsigned width)
-{
-    uint32_t n = 0;
-    for (size_t left = below(5); left > 0; left--)
-        n |= (uint32_t)1 << below(width);
-    return n;
-}
-
 static void draw_vectors(struct draft *d)
 {
-    size_t style = below(10); // unknown bits: 0 none, 1 all, 2 to 4 any, else few
+    size_t style = below(STYLES);
     for (size_t i = 0; i < d->widths; i++) {
-        uint32_t all = UINT32_MAX >> (32 - d->width[i]);
-        uint32_t masks[] = {0, all, (uint32_t)draw(), (uint32_t)draw(), (uint32_t)draw()};
-        d->mask[i] = (style < 5 ? masks[style] : few_bits(d->width[i])) & all;
-        d->value[i] = (percent(10) ? 0 : percent(10) ? all : (uint32_t)draw()) & all & ~d->mask[i];
+        struct ref_vector v = draw_vector(d->width[i], style);
+        d->mask[i] = v.mask;
+        d->value[i] = v.value;
     }
 }
 

@@ -1,16 +1,18 @@
-// The library's calls on slices lent together, each made on a stack of its own, so that the stack it takes can be measured.
+// The library's calls, on slices lent together or on bare vectors, each made on a stack of its own, so that the stack it takes can be
+// measured.
 #include "library.h"
 #include <string.h>
 #include <ucontext.h>
 
 enum { STACK = 1 << 16, PAINT = 0x5c };
 
-// The call at hand: its slices, its buffer or text, its two numbers, and its answer.
+// The call at hand: its slices, its buffer or text, its two numbers, its bare vectors, and its answer.
 static struct {
     struct ref_table t;
     uint8_t *out;
     const uint8_t *text;
     size_t length, x, y;
+    struct ref_operands o;
     rifflerleek_answer answer;
 } call;
 
@@ -74,6 +76,12 @@ static void make_field(void)
     call.answer = rifflerleek_field(call.text, call.length, call.x, call.y);
 }
 
+static void make_product_bit(void)
+{
+    const struct ref_operands *o = &call.o;
+    call.answer = rifflerleek_product_bit(o->width, o->a.mask, o->a.value, o->b.mask, o->b.value, o->bit);
+}
+
 rifflerleek_answer library_run(struct ref_table *t, size_t first, size_t last)
 {
     call.t = *t;
@@ -118,4 +126,10 @@ rifflerleek_answer library_field(const uint8_t *text, size_t length, size_t line
     call.x = line;
     call.y = field;
     return on_stack(make_field);
+}
+
+rifflerleek_answer library_product_bit(const struct ref_operands *o)
+{
+    call.o = *o;
+    return on_stack(make_product_bit);
 }

@@ -1,4 +1,5 @@
-// The library's calls on slices lent together, each made on a stack of its own, so that the stack it takes can be measured.
+// The library's calls, on slices lent together or on bare vectors, each made on a stack of its own, so that the stack it takes can be
+// measured.
 #ifndef LIBRARY_H
 #define LIBRARY_H
 
@@ -11,6 +12,7 @@ rifflerleek_answer library_size(struct ref_table *t);
 rifflerleek_answer library_write(struct ref_table *t, uint8_t *out, size_t length);
 rifflerleek_answer library_read(const uint8_t *text, size_t length, struct ref_table *t);
 rifflerleek_answer library_field(const uint8_t *text, size_t length, size_t line, size_t field);
+rifflerleek_answer library_product_bit(const struct ref_operands *o);
 
 // The most bytes of stack that a call has taken so far, with those that making it takes: at most LIBRARY_CALLER, for the frame of the
 // function that makes it and for its arguments.

@@ -19,6 +19,16 @@ struct ref_table {
     size_t widths, locks, masks, values, word_count;
 };
 
+struct ref_vector {
+    uint32_t mask, value;
+};
+
+// Two bare vectors of one width, and the number of a bit.
+struct ref_operands {
+    uint32_t width, bit;
+    struct ref_vector a, b;
+};
+
 enum { KINDS = 24, MUL = 16, ITE = 20, UMULW = 21, SMULW = 22, SUMULW = 23 };
 
 // What a word of a record means for its kind.
@@ -47,6 +57,13 @@ uint64_t ref_plain(const struct ref_op *o, uint64_t a, uint64_t b, uint64_t c);
 // The operands' bits that can make a difference to bit k of the result.
 void ref_needed(const struct ref_op *o, unsigned k, uint64_t need[3]);
 
+// Which values bit k of the result takes over all choices of operands: 1 for 0, 2 for 1, 3 for both; 0 where the first 2^limit choices do
+// not settle it.
+int ref_values(const struct ref_op *o, const struct ref_vector v[3], unsigned k, unsigned limit);
+
+// Whether mask and value share no bit and have none at or above the width, 1 to 32.
+int ref_well_formed(uint32_t width, struct ref_vector v);
+
 struct ref_answer ref_result(size_t result, uint64_t second_result);
 struct ref_answer ref_refusal(uint32_t number, size_t place);
 
@@ -59,10 +76,10 @@ struct ref_answer ref_check(const struct ref_table *t, int run, size_t first, si
 // Whether the words of a record of a known kind name one row as both operands.
 int ref_named_twice(const uint32_t *record);
 
-// One record's step. 0 where it would take more than 2^limit choices for a bit: the rows are then as they were.
+// One record's step. 0 where 2^limit choices do not settle a bit: the rows are then as they were.
 int ref_step(struct ref_table *t, size_t r, unsigned limit);
 
-// exact becomes 0 where a step would take more than 2^limit choices for a bit: the answer then says nothing.
+// exact becomes 0 where 2^limit choices do not settle a bit of a step: the answer then says nothing.
 struct ref_answer ref_run(struct ref_table *t, size_t first, size_t last, unsigned limit, int *exact);
 struct ref_answer ref_count(const struct ref_table *t, size_t row);
 struct ref_answer ref_size(const struct ref_table *t);
@@ -73,5 +90,8 @@ int ref_headed(const uint8_t *text, size_t length);
 
 struct ref_answer ref_read(const uint8_t *text, size_t length, struct ref_table *t);
 struct ref_answer ref_field(const uint8_t *text, size_t length, size_t line, size_t field);
+
+// exact becomes 0 where 2^limit choices do not settle the bit: the answer then says nothing.
+struct ref_answer ref_product_bit(const struct ref_operands *o, unsigned limit, int *exact);
 
 #endif

@@ -57,14 +57,17 @@ uint32_t ref_record(const struct ref_table *t, size_t r, int locked_too)
     return locked_too && t->lock[w[1]] == 1 ? 10 : 0;
 }
 
+int ref_well_formed(uint32_t width, struct ref_vector v)
+{
+    uint64_t end = (uint64_t)1 << width;
+    return v.mask < end && v.value < end && (v.mask & v.value) == 0;
+}
+
 static uint32_t row_refusal(const struct ref_table *t, size_t i)
 {
     if (t->width[i] < 1 || t->width[i] > 32 || t->lock[i] > 1)
         return 4;
-    uint64_t end = (uint64_t)1 << t->width[i];
-    if (t->mask[i] >= end || t->value[i] >= end || (t->mask[i] & t->value[i]) != 0)
-        return 5;
-    return 0;
+    return ref_well_formed(t->width[i], (struct ref_vector){t->mask[i], t->value[i]}) ? 0 : 5;
 }
 
 static struct ref_answer check_slices(const struct ref_table *t)

@@ -1,99 +1,5 @@
-// What a record does to the rows, by enumeration (document 002, equation 8), and run.
+// What a record does to the rows, and run.
 #include "reference.h"
-#include <stdio.h>
-#include <stdlib.h>
-
-struct vector {
-    uint32_t mask, value;
-};
-
-// Which values bit k of the result takes over all choices: 1 for 0, 2 for 1, 3 for both; 0 where there are more than 2^limit choices.
-static int enumerate(const struct ref_op *o, const struct vector v[3], unsigned k, unsigned limit)
-{
-    uint64_t need[3], a = 0, b = 0, c = 0;
-    unsigned unknown = 0;
-    ref_needed(o, k, need);
-    if (o->one_number) { // only a is varied, and b is a
-        need[0] |= need[1];
-        need[1] = 0;
-    }
-    for (int j = 0; j < 3; j++) {
-        need[j] &= v[j].mask;
-        unknown += (unsigned)__builtin_popcountll(need[j]);
-    }
-    if (unknown > limit)
-        return 0;
-    int seen = 0;
-    do { // n = (n - m) & m goes through the subsets of m, and back to 0
-        do {
-            do {
-                seen |= 1 << ref_bit(ref_plain(o, v[0].value | a, o->one_number ? v[0].value | a : v[1].value | b, v[2].value | c), k);
-                if (seen == 3)
-                    return 3;
-                a = (a - need[0]) & need[0];
-            } while (a != 0);
-            b = (b - need[1]) & need[1];
-        } while (b != 0);
-        c = (c - need[2]) & need[2];
-    } while (c != 0);
-    return seen;
-}
-
-// The same for add, sub and neg without a limit: the carries that the bits below k can give, bit by bit.
-static int by_carries(const struct ref_op *o, const struct vector v[3], unsigned k)
-{
-    struct vector a = o->kind == 15 ? (struct vector){0, 0} : v[0], b = o->kind == 15 ? v[0] : v[1];
-    int carries = 1, seen = 0;
-    for (unsigned i = 0; i <= k; i++) {
-        int next = 0;
-        seen = 0;
-        for (int n = 0; n < 8; n++) {
-            int x = n & 1, y = n >> 1 & 1, carry = n >> 2;
-            if (!(carries >> carry & 1) || (o->one_number && x != y) || (!ref_bit(a.mask, i) && x != (int)ref_bit(a.value, i)) || (!ref_bit(b.mask, i) && y != (int)ref_bit(b.value, i)))
-                continue;
-            int sum = o->kind == 13 ? x + y + carry : x - y - carry;
-            seen |= 1 << (sum & 1);
-            next |= 1 << (sum < 0 || sum > 1);
-        }
-        carries = next;
-    }
-    return seen;
-}
-
-// The same for eq, ult and slt without a limit: by known bits that differ, and by the least and greatest operands. One number is equal to
-// itself, and not less.
-static int by_extremes(const struct ref_op *o, const struct vector v[3])
-{
-    if (o->one_number)
-        return o->kind == 17 ? 2 : 1;
-    uint64_t top = o->kind == 19 ? (uint64_t)1 << (o->w[0] - 1) : 0;
-    uint64_t low[2], high[2];
-    for (int j = 0; j < 2; j++) { // 2^(w-1) added modulo 2^w turns the signed order into the plain one
-        low[j] = (v[j].value | (v[j].mask & top)) ^ top;
-        high[j] = (v[j].value | (v[j].mask & ~top)) ^ top;
-    }
-    if (o->kind == 17) {
-        int differ = ((v[0].value ^ v[1].value) & ~(v[0].mask | v[1].mask)) != 0;
-        int known = (v[0].mask | v[1].mask) == 0;
-        return differ ? 1 : known ? 2 : 3;
-    }
-    return (high[0] >= low[1] ? 1 : 0) | (low[0] < high[1] ? 2 : 0);
-}
-
-// Both ways where both can be gone, and they must agree.
-static int values_at(const struct ref_op *o, const struct vector v[3], unsigned k, unsigned limit)
-{
-    int seen = enumerate(o, v, k, limit), other = seen;
-    if (o->kind >= 13 && o->kind <= 15)
-        other = by_carries(o, v, k);
-    if (o->kind >= 17 && o->kind <= 19)
-        other = by_extremes(o, v);
-    if (seen != 0 && seen != other) {
-        printf("the reference disagrees with itself: kind %u, bit %u\n", o->kind, k);
-        exit(1);
-    }
-    return other;
-}
 
 int ref_named_twice(const uint32_t *record)
 {
@@ -111,15 +17,15 @@ int ref_step(struct ref_table *t, size_t r, unsigned limit)
     const uint32_t *w = t->words + 5 * r;
     struct kind kind = kinds[w[0]];
     struct ref_op o = {w[0], kind.p == NUMBER ? w[4] : 0, t->width[w[1]], {0, 0, 0}, ref_named_twice(w) && !independent(w[0])};
-    struct vector v[3] = {{0, 0}, {0, 0}, {0, 0}}, result = {0, 0};
+    struct ref_vector v[3] = {{0, 0}, {0, 0}, {0, 0}}, result = {0, 0};
     enum use uses[3] = {kind.a, kind.b, kind.p};
     for (int j = 0; j < 3; j++)
         if (uses[j] == ROW) {
             o.w[j] = t->width[w[2 + j]];
-            v[j] = (struct vector){t->mask[w[2 + j]], t->value[w[2 + j]]};
+            v[j] = (struct ref_vector){t->mask[w[2 + j]], t->value[w[2 + j]]};
         }
     for (unsigned k = 0; k < o.wt; k++) {
-        int seen = values_at(&o, v, k, limit);
+        int seen = ref_values(&o, v, k, limit);
         if (seen == 0)
             return 0;
         result.mask |= (uint32_t)(seen == 3) << k;

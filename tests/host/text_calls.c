@@ -115,25 +115,10 @@ void call_trip(void)
     trips[headed]++;
 }
 
-// Prints so many counts, each after its letter where there are letters: how many are 0.
-static int report(const char *name, const char *each, const unsigned *counts, int number)
-{
-    int missing = 0;
-    printf("%s:", name);
-    for (int i = 0; i < number; i++) {
-        if (each != NULL)
-            printf(" %c", each[i]);
-        printf(" %u", counts[i]);
-        missing += counts[i] == 0;
-    }
-    printf("\n");
-    return missing;
-}
-
 int report_texts(void)
 {
-    int missing = report("letters of listings", letters, letters_read, LETTERS);
-    missing += report("headers alone", NULL, &alone, 1);
-    missing += report("wrong headers refused, in the order of draw_listing.c", NULL, faults_refused, HEADER_FAULTS);
-    return missing + report("texts read and written back, of edition", "12", trips, 2);
+    int missing = report_counts("letters of listings", letters, letters_read, LETTERS);
+    missing += report_counts("headers alone", NULL, &alone, 1);
+    missing += report_counts("wrong headers refused, in the order of draw_listing.c", NULL, faults_refused, HEADER_FAULTS);
+    return missing + report_counts("texts read and written back, of edition", "12", trips, 2);
 }

@@ -9,14 +9,16 @@ use lib.Arith.{le→nltb, lt→nleb}
 use lib.ListN.{length, getD}
 use lib.Bits.{bitAnd}
 use Rattle.bits.proofs.Bools.{eq→eqb, T-not-not, not-not-T}
+use Rattle.bits.specs.Limits.{widthLimit}
 use Rattle.vectors.specs.Lists.{All}
+use Rattle.vectors.specs.Row.{row, WellFormed}
 use Rattle.vectors.proofs.Rows.{apart-of-and, and-of-apart}
 use Rattle.operations.specs.Kind.{Use, asRow, asNumber, unused}
 use Rattle.operations.specs.Kinds.{isKind}
 use Rattle.operations.specs.Record.{kindWord, targetWord, firstWord, secondWord, parameterWord, kindIn, widthAt, used, rowsNamed, wordOutside, widthsFit, recordFaults}
 use Rattle.checks.specs.Check.{placed, Passed}
 use Rattle.checks.specs.Table.{Table}
-use Rattle.checks.specs.Checks.{rowFaultsAt}
+use Rattle.checks.specs.Checks.{widthFaults, vectorFaults, rowFaultsAt}
 use Rattle.checks.specs.Accepted.{RowPassed, RecordPassed}
 
 pub positive : (n : ℕ) → T (not (eqb n 0)) → 1 ≤ n
@@ -28,18 +30,24 @@ positive n p = nleb→lt n 0 (not-T (leb n 0) (λ q. T-not (eqb n 0) p (eq→eqb
 pub not-zero : (n : ℕ) → 1 ≤ n → T (not (eqb n 0))
 not-zero n h = not-T (eqb n 0) (λ q. let e = eqb→eq n 0 q in omega arith)
 
+pub width-of-passed : (w j : ℕ) → Passed (placed j (widthFaults w)) → (1 ≤ w) × (w ≤ widthLimit)
+width-of-passed w j P = (positive w (P .0), nltb→le _ _ (P .1 .0))
+
+pub vector-of-passed : (w m v j : ℕ) → Passed (placed j (vectorFaults w m v)) → WellFormed (row w m v)
+vector-of-passed w m v j P =
+    record {
+      mask-below = nleb→lt _ _ (P .0);
+      value-below = nleb→lt _ _ (P .1 .0);
+      apart = λ k. apart-of-and m v k (eqb→eq _ _ (T-not-not (eqb (bitAnd m v) 0) (P .1 .1 .0)));
+    }
+
 pub row-of-passed : (t : Table) (i j : ℕ) → Passed (placed j (rowFaultsAt t i)) → RowPassed t i
 row-of-passed t i j P =
     record {
       width-least = positive (widthAt (t .widths) i) (P .0);
       width-most = nltb→le _ _ (P .1 .0);
       lock-most = nltb→le _ _ (P .1 .1 .0);
-      formed = record {
-        mask-below = nleb→lt _ _ (P .1 .1 .1 .0);
-        value-below = nleb→lt _ _ (P .1 .1 .1 .1 .0);
-        apart = λ k. apart-of-and (getD (t .masks) i 0) (getD (t .values) i 0) k
-            (eqb→eq _ _ (T-not-not (eqb (bitAnd (getD (t .masks) i 0) (getD (t .values) i 0)) 0) (P .1 .1 .1 .1 .1 .0)));
-      };
+      formed = vector-of-passed (widthAt (t .widths) i) (getD (t .masks) i 0) (getD (t .values) i 0) j (P .1 .1 .1);
     }
 
 pub passed-of-row : (t : Table) (i j : ℕ) → RowPassed t i → Passed (placed j (rowFaultsAt t i))

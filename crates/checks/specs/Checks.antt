@@ -3,10 +3,10 @@
 --   noRows, tooManyRows        the conditions of 1;   locksDiffer, masksDiffer, valuesDiffer   of 2
 --   wordsLeftOver, tooManyRecords, firstAfterLast, lastPastEnd   of 3
 --   widthZero, widthOver, lockOver   of 4;            planeOver, planesMeet   of 5
---   rowOutside t i             of count's 7
+--   rowOutside t i             of count's 7;      bitOutside w k   of 15 (02, request 6)
 --   rowShapeFaults t           1 and 2;      wordFaults t      3 without a stretch;   stretchFaults t first last   3 for a stretch
 --   rowFaults w l m v          4 and 5 of a row;  rowFaultsAt t i   of row i;   rowChecks t   of all rows
---   widthFaults w, vectorFaults w m v   their parts: a width, and a vector of that width
+--   widthFaults w, vectorFaults w m v   their parts: a width, and a vector of that width;   bitFaults w k   15 of a bit number
 --   recordChecks t             6 to 9 of all records;          openChecks t  6 to 10 of all records
 --   runChecks, sizeChecks, countChecks   what run, size and count refuse, in order
 use mathlib.Core.Bool.{Bool, not}
@@ -79,6 +79,11 @@ planesMeet m v = not (eqb (bitAnd m v) 0)
 abbrev pub rowOutside : Table → ℕ → Bool
 rowOutside t i = leb (length (t .widths)) i
 
+-- ---- 15: "a bit number at or above the width" (02, request 6)
+
+abbrev pub bitOutside : ℕ → ℕ → Bool
+bitOutside w k = leb w k
+
 -- ---- the lists
 
 abbrev pub rowShapeFaults : Table → List Fault
@@ -95,6 +100,9 @@ widthFaults w = fault (widthZero w) 4 ∷ fault (widthOver w) 4 ∷ []
 
 abbrev pub vectorFaults : ℕ → ℕ → ℕ → List Fault
 vectorFaults w m v = fault (planeOver w m) 5 ∷ fault (planeOver w v) 5 ∷ fault (planesMeet m v) 5 ∷ []
+
+abbrev pub bitFaults : ℕ → ℕ → List Fault
+bitFaults w k = fault (bitOutside w k) 15 ∷ []
 
 abbrev pub rowFaults : ℕ → ℕ → ℕ → ℕ → List Fault
 rowFaults w l m v = widthFaults w ++ fault (lockOver l) 4 ∷ vectorFaults w m v

@@ -1,13 +1,14 @@
 // Tables: the checks of their rows and records.
 ghost use mathlib.Core.Path.{_≡_};
-ghost use Rattle.checks.specs.Check.{refused};
-ghost use Rattle.checks.specs.Model.{verdictModel};
+ghost use mathlib.Core.List.{List, _++_};
+ghost use Rattle.checks.specs.Check.{refused, Check};
+ghost use Rattle.checks.specs.Model.{verdictModel, judged};
 
 pub mod described; // described.rt: what each kind uses and asks of the widths
 pub mod limits; // limits.rt: numbers that 01 sets
 pub mod records; // records.rt: checks 6 to 10
 pub mod refusals; // refusals.rt: the numbers of the refusals
-pub mod rows; // rows.rt: checks 4 and 5
+pub mod rows; // rows.rt: checks 4 and 5, and 15 of a bit number
 
 // A refusal holds its number and its place.
 pub struct Refusal {
@@ -29,4 +30,14 @@ pub fn refuse(number: u32, place: usize) -> Verdict
         number: number,
         place: place,
     })
+}
+
+// What two lists of checks find, one after the other: the first refusal.
+pub fn first_refusal(earlier: Verdict, later: Verdict) -> Verdict
+    ensures { λ r. ⌜ ((cs ds : List Check) → verdictModel earlier ≡ judged cs → verdictModel later ≡ judged ds → verdictModel r ≡ judged (cs ++ ds)) ⌝ }
+{
+    match earlier {
+        Verdict::Refused(_) => earlier,
+        Verdict::Passed => later,
+    }
 }

@@ -1,4 +1,4 @@
-// The numbers of the refusals (01, "Who can cause a refusal").
+// The numbers of the refusals (01, "Who can cause a refusal"; from 15 on 02).
 
 pub const ROWS: u32 = 1;
 
@@ -27,3 +27,5 @@ pub const LINE: u32 = 12;
 pub const ROOM: u32 = 13;
 
 pub const BUFFER: u32 = 14;
+
+pub const BIT: u32 = 15;

@@ -1,9 +1,9 @@
-// Checks 4 and 5 of rows.
+// Checks 4 and 5 of rows, and 15 of a bit number.
 ghost use mathlib.Core.Path.{_≡_};
 ghost use mathlib.Core.List.{[]};
 ghost use Prim.Native.Nat.{_≤_};
 ghost use Rattle.checks.specs.Check.{placed};
-ghost use Rattle.checks.specs.Checks.{widthFaults, vectorFaults, rowFaults, rowChecks};
+ghost use Rattle.checks.specs.Checks.{widthFaults, vectorFaults, bitFaults, rowFaults, rowChecks};
 ghost use Rattle.bits.specs.Limits.{widthLimit};
 ghost use Rattle.checks.specs.Model.{lent, verdictModel, judged};
 ghost use Rattle.checks.specs.Encoding.{RowSlices};
@@ -40,6 +40,16 @@ pub fn check_vector(w: u32, m: u32, v: u32, i: usize) -> Verdict
     }
     if m & v != 0 {
         return refuse(refusals::VECTOR, i);
+    }
+    Verdict::Passed
+}
+
+// Check 15 of a bit number at width w; i is its place.
+pub fn check_bit(w: u32, k: u32, i: usize) -> Verdict
+    ensures { λ r. ⌜ verdictModel r ≡ judged (placed i (bitFaults w k)) ⌝ }
+{
+    if w <= k {
+        return refuse(refusals::BIT, i);
     }
     Verdict::Passed
 }

@@ -1,5 +1,5 @@
 -- What a word says of the columns of a product (01, "Abstract result": X where two choices of covered operands disagree). Cited by the contracts of
--- inner functions alone: what `product_bit` and `mul` promise does not lean on them.
+-- inner functions alone: what `product_bit_unchecked` and `mul` promise does not lean on them.
 --   productOf w ma va mb vb        the product's vector at width w
 --   ColumnIs w ma va mb vb k b     if column k is below the width, its mask bit is b: 1 for unknown, 0 for known
 --   Marks P n                      every column that is set in n has the property P

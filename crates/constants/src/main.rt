@@ -11,6 +11,7 @@ use operations::RECORD_WORDS;
 use operations::name_byte;
 use operations::name_len;
 use rifflerleek::DONE;
+use rifflerleek::UNKNOWN_BIT;
 use texts::limits::RECORD_BYTES;
 use texts::limits::ROW_BYTES;
 use texts::limits::TEXT_LIMIT;
@@ -69,6 +70,7 @@ fn print_refusals() {
     print_refusal(b"line", refusals::LINE);
     print_refusal(b"room", refusals::ROOM);
     print_refusal(b"buffer", refusals::BUFFER);
+    print_refusal(b"bit", refusals::BIT);
 }
 
 // The most bytes of a row line, as the definitions have it.
@@ -100,6 +102,7 @@ fn print_limits() {
 fn main() {
     print_kinds();
     print_line(b"done", DONE as usize);
+    print_line(b"unknown_bit", UNKNOWN_BIT);
     print_refusals();
     print_limits();
 }

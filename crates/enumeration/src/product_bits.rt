@@ -1,8 +1,7 @@
-// Every bit of every product to width 4, through `product_bit` itself: `mul` works out few columns by it, and none at these widths.
+// Every bit of every product to width 4, through the public `product_bit`: `mul` works out few columns by the routine under it, and none at these widths.
 ghost use Prim.Native.Nat.{_≤_};
 ghost use Rattle.bits.specs.Limits.{widthLimit};
 ghost use Rattle.oracle.specs.Sizes.{Sized};
-ghost use Rattle.vectors.specs.Row.{row, WellFormed};
 use crate::sweeps::pair;
 use crate::sweeps::pairs;
 use crate::sweeps::well_formed;
@@ -10,11 +9,12 @@ use oracle::choices::Row;
 use oracle::choices::enumerated;
 use oracle::numbers::bit;
 use oracle::shapes::Shape;
-use products::product_bit;
 use trials::counting::Tally;
 use trials::counting::joined;
 use trials::counting::none;
 use trials::counting::one;
+use vector_calls::BitAnswer;
+use vector_calls::product_bit;
 use vectors::OutputBit;
 
 // mul at width w.
@@ -32,29 +32,39 @@ fn shape(w: u32) -> Shape
     }
 }
 
-// Whether the answer is bit k of the row.
-fn is_bit(answer: OutputBit, right: Row, k: u64) -> bool
+// Whether the bit is bit k of the row.
+fn is_bit(found: OutputBit, right: Row, k: u64) -> bool
     requires { ⌜ k ≤ widthLimit ⌝ }
 {
     let unknown = bit(right.mask as u64, k);
     let value = bit(right.value as u64, k);
-    match answer {
+    match found {
         OutputBit::Zero => unknown == 0 && value == 0,
         OutputBit::One => unknown == 0 && value == 1,
         OutputBit::Unknown => unknown == 1,
     }
 }
 
+// Whether the answer is bit k of the row, and no refusal.
+fn is_answer(answer: BitAnswer, right: Row, k: u64) -> bool
+    requires { ⌜ k ≤ widthLimit ⌝ }
+{
+    match answer {
+        BitAnswer::Bit(found) => is_bit(found, right, k),
+        BitAnswer::Refused(_) => false,
+    }
+}
+
 // Every bit of the product of two vectors.
 fn each_bit(w: u32, a: Row, b: Row) -> Tally
-    requires { ⌜ (1 ≤ w) × (w ≤ 4) × WellFormed (row w (a .mask) (a .value)) × WellFormed (row w (b .mask) (b .value)) ⌝ }
+    requires { ⌜ (1 ≤ w) × (w ≤ 4) ⌝ }
 {
     let right = enumerated(shape(w), a, b, Row { mask: 0, value: 0 });
     let mut tally = none();
     let mut k: u32 = 0;
     while k < w {
-        let answer = product_bit(a.mask, a.value, b.mask, b.value, k);
-        tally = joined(tally, one(is_bit(answer, right, k as u64)));
+        let answer = product_bit(w, a.mask, a.value, b.mask, b.value, k);
+        tally = joined(tally, one(is_answer(answer, right, k as u64)));
         k += 1;
     }
     tally
@@ -62,7 +72,7 @@ fn each_bit(w: u32, a: Row, b: Row) -> Tally
 
 // Every second factor.
 fn each_second(w: u32, a: Row) -> Tally
-    requires { ⌜ (1 ≤ w) × (w ≤ 4) × WellFormed (row w (a .mask) (a .value)) ⌝ }
+    requires { ⌜ (1 ≤ w) × (w ≤ 4) ⌝ }
 {
     let end = pairs(true, w as u64);
     let mut tally = none();

@@ -1,8 +1,5 @@
 // All tables of a kind: every width, parameter and vector. Where `twice` holds, those in which both operand words name one row.
-ghost use mathlib.Core.Bool.{true};
-ghost use mathlib.Core.Path.{_≡_};
 ghost use Prim.Native.Nat.{_≤_, _<_};
-ghost use Rattle.vectors.specs.Row.{row, WellFormed};
 ghost use Rattle.oracle.specs.Sizes.{Sized};
 use oracle::choices::Row;
 use oracle::numbers::power;
@@ -43,7 +40,6 @@ pub fn pair(w: u64, n: u64) -> Row
 // Whether mask and value are those of a vector of width w: no bit at or above it, and no set bit shared.
 pub fn well_formed(w: u64, v: Row) -> bool
     requires { ⌜ w ≤ 4 ⌝ }
-    ensures { λ r. ⌜ (r ≡ true → WellFormed (row w (v .mask) (v .value))) ⌝ }
 {
     let end = power(w);
     if v.mask as u64 >= end {

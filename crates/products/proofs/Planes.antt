@@ -1,9 +1,10 @@
 -- The two planes of a product. Assumes nothing.
 --   mask-bit-of   an answer's mask bit is the vector's
+--   column-told   the bit of one column, from whether it is unknown and the values' product
 --   formed-of     the operands that the checks let pass
 --   planes-known  the planes of known operands' product
 --   planes-of     the planes from the unknown columns and the values' product, cut to the width
-use mathlib.Core.Path.{_≡_, sym, ap, ap₂, subst, _∙_}
+use mathlib.Core.Path.{_≡_, refl, sym, ap, ap₂, subst, _∙_}
 use mathlib.Core.Logic.{inl, inr}
 use mathlib.Core.List.{[], _∷_}
 use Prim.Native.Nat.{ℕ, _-_, _*_, _%_, _^_, _≤_, _<_}
@@ -14,17 +15,17 @@ use lib.Bits.{bitAnd, bitOr, and-zero-l, and-comm, and-le-r, and-mask, mask-lt}
 use Rattle.bits.specs.Limits.{widthLimit}
 use Rattle.bits.specs.Bit.{bit}
 use Rattle.bits.proofs.Bits.{bit-lt, bit-cases, bit-and, bit-ext}
-use Rattle.bits.proofs.Constants.{bit-complement, bit-ones}
+use Rattle.bits.proofs.Constants.{bit-complement, bit-ones, bit-pow}
 use Rattle.bits.proofs.Shifts.{bit-mod}
 use Rattle.vectors.specs.declared.OutputBit.{OutputBit}
 use Rattle.vectors.specs.Row.{Row, row}
+use Rattle.vectors.specs.OutputBits.{outputBit, outputMask}
+use Rattle.vectors.proofs.Told.{output-unknown, output-known}
 use Rattle.operations.specs.Arithmetic.{opMul}
 use Rattle.operations.specs.Result.{Ready}
 use Rattle.columns.specs.Formed.{Formed}
 use Rattle.columns.specs.Settled.{productOf}
 use Rattle.columns.proofs.ProductMask.{product-formed, product-width, product-below, product-value}
-use Rattle.products.specs.OutputBits.{outputBit, outputMask}
-use Rattle.products.proofs.Outputs.{output-unknown, output-known}
 use Rattle.products.proofs.Unsettled.{known-operands}
 
 pub mask-bit-of : (r : Row) (k : ℕ) (b : OutputBit) (u : ℕ) → b ≡ outputBit r k → u ≡ outputMask b → u ≡ bit (r .mask) k
@@ -37,6 +38,19 @@ mask-bit-of r k b u eb eu =
         | inl f ↦ ap outputMask (output-known r k 0 e f) ∙ sym e
         | inr f ↦ ap outputMask (output-known r k 1 e f) ∙ sym e
       ]
+    ]
+
+pub column-told : (w ma va mb vb k u p : ℕ) → Formed w ma va mb vb → k < w → u ≡ bitAnd (2 ^ k) (productOf w ma va mb vb .mask) → p ≡ va * vb % 2 ^ 32
+    → outputBit (row w u p) k ≡ outputBit (productOf w ma va mb vb) k
+column-told w ma va mb vb k u p F h d e =
+    let q = productOf w ma va mb vb in
+    let o = F .most in
+    let a : bit u k ≡ bit (q .mask) k = ap (λ (n : ℕ). bit n k) d ∙ bit-and (2 ^ k) (q .mask) k ∙ omega (arith, bit-pow k, bit-lt (q .mask) k) in
+    elim (bit-cases (q .mask) k) [
+      | inr y ↦ output-unknown (row w u p) k (a ∙ y) ∙ sym (output-unknown q k y)
+      | inl y ↦
+          let v = ap (λ (n : ℕ). bit n k) e ∙ bit-mod (va * vb) 32 k (omega arith) ∙ sym (product-value w ma va mb vb k h (F .first) (F .second) y) in
+          output-known (row w u p) k (bit (q .value) k) (a ∙ y) v ∙ sym (output-known q k (bit (q .value) k) y refl)
     ]
 
 module _ (w ma va mb vb r p : ℕ) (F : Formed w ma va mb vb) (hr : r < 2 ^ 32) (e : p ≡ va * vb % 2 ^ 32)

@@ -16,7 +16,7 @@ use Rattle.vectors.specs.Row.{Row, row, WellFormed, Covers}
 use Rattle.vectors.proofs.Rows.{covers-value}
 use Rattle.operations.specs.Arithmetic.{opMul}
 use Rattle.operations.specs.Result.{resultOf}
-use Rattle.products.specs.OutputBits.{outputBit}
+use Rattle.vectors.specs.OutputBits.{outputBit}
 use Rattle.products.specs.ColumnSum.{termsBelow, onePairs, columnFloor, modTwo, bitOfFloors}
 use Rattle.products.specs.Rule.{DoublyUnknown, Least, Greatest}
 use Rattle.products.proofs.TwoPairs.{theorem-4}

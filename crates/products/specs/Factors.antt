@@ -1,5 +1,5 @@
 -- The factors at which section 7.2 of document 002 reaches the extremes of a column sum (algorithm 2). They are cited by the contracts of the inner
--- functions alone: what `product_bit` and `mul` promise does not lean on them.
+-- functions alone: what `product_bit_unchecked` and `mul` promise does not lean on them.
 --   andNot x y                     the bits of x that y does not have
 --   leastFactor k m v pm pv        a factor that makes the column sum least, for a vector (m, v) and the other factor's vector (pm, pv)
 --   greatestFactor k m v pm pv     one that makes it greatest; in both a bit of a pair unknown on both sides is 0

@@ -12,7 +12,7 @@ ghost use Rattle.operations.specs.Arithmetic.{opMul};
 ghost use Rattle.operations.specs.Result.{resultOf, Ready};
 ghost use Rattle.columns.specs.Formed.{Formed};
 ghost use Rattle.columns.specs.Settled.{productOf, Marks};
-ghost use Rattle.products.specs.OutputBits.{outputBit, outputMask};
+ghost use Rattle.vectors.specs.OutputBits.{outputBit, outputMask};
 ghost use Rattle.products.specs.Granted.{Granted};
 use bits::FourWords;
 use bits::reverse_words;
@@ -31,6 +31,7 @@ use factors::settle;
 use factors::with_pair;
 use vectors::OutputBit;
 use vectors::Vector;
+use vectors::bit_of;
 use vectors::pack;
 use vectors::unpack;
 
@@ -55,14 +56,6 @@ fn column_bit(ma: u32, va: u32, mb: u32, vb: u32, reverses: FourWords, k: u32) -
     let x = extreme_factors(ma, va, mb, vb, reverses, k);
     let y = with_pair(x, i, k);
     settle(y, k)
-}
-
-// Bit k of the product. No width is asked for: the answer is right at every width above k at which the vectors are well formed.
-pub fn product_bit(ma: u32, va: u32, mb: u32, vb: u32, k: u32) -> OutputBit
-    requires { ⌜ Granted ma va mb vb k ⌝ }
-    ensures { λ r. ⌜ ((w : ℕ) → k < w → WellFormed (row w ma va) → WellFormed (row w mb vb) → r ≡ outputBit (resultOf opMul w 0 (row w ma va ∷ row w mb vb ∷ [])) k) ⌝ }
-{
-    column_bit(ma, va, mb, vb, reverse_words(ma, va, mb, vb), k)
 }
 
 fn mask_bit(b: OutputBit) -> u32
@@ -106,6 +99,16 @@ fn unknown_left(unsettled: u32, ma: u32, va: u32, mb: u32, vb: u32) -> u32
 {
     let left = unsettled & !known_high(ma, va, mb, vb);
     unknown_among(left, ma, va, mb, vb)
+}
+
+// Bit k of the product, for a caller that has checked: unknown where column k is, else that of the values' product. No width is asked for: the
+// answer is right at every width above k at which the vectors are well formed.
+pub fn product_bit_unchecked(ma: u32, va: u32, mb: u32, vb: u32, k: u32) -> OutputBit
+    requires { ⌜ Granted ma va mb vb k ⌝ }
+    ensures { λ r. ⌜ ((w : ℕ) → k < w → WellFormed (row w ma va) → WellFormed (row w mb vb) → r ≡ outputBit (resultOf opMul w 0 (row w ma va ∷ row w mb vb ∷ [])) k) ⌝ }
+{
+    let unknown = unknown_left(1u32 << k, ma, va, mb, vb);
+    bit_of(unknown, product(va, vb), k)
 }
 
 // The same. Every choice of the few unknown bits below the cut settles the columns below it, and shows some of the others to be unknown. Where no

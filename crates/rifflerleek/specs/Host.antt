@@ -2,10 +2,13 @@
 --   hostResult a b      a result of two numbers: refusal 0;   hostRefusal n p   a refusal: its number and its place
 --   numberAnswer      of run, size and write, whose result is one number;   countAnswer   of count;   countsAnswer   of read
 --   endsAnswer        of field: where the part begins and ends
+--   bitNumber b       an output bit as a number: 2 for X;   bitAnswer   of product_bit
 --   Outcome L         an answer, and what the call leaves in the slices;   outcome r left   these of a host
 --   hostRan, hostWritten, hostRead   these of what run, write and read answer and leave
 use mathlib.Core.List.{List}
 use Prim.Native.Nat.{ℕ}
+use Rattle.vectors.specs.declared.OutputBit.{OutputBit}
+use Rattle.vectors.specs.declared.OutputBit.the-variants.{Zero, One, Unknown}
 use Rattle.checks.specs.Check.{Answer, done, refused}
 use Rattle.checks.specs.Table.{State, Table}
 use Rattle.tables.specs.Run.{Ran, Count}
@@ -36,6 +39,16 @@ countsAnswer (refused number place) = hostRefusal number place
 -- "a part of the lent text": by its two ends
 abbrev pub endsAnswer : Ends → HostAnswer
 endsAnswer e = hostResult (e .start) (e .end)
+
+-- "0, 1 or X", with 2 for X
+abbrev pub bitNumber : OutputBit → ℕ
+bitNumber Zero = 0
+bitNumber One = 1
+bitNumber Unknown = 2
+
+abbrev pub bitAnswer : Answer OutputBit → HostAnswer
+bitAnswer (done b) = hostResult (bitNumber b) 0
+bitAnswer (refused number place) = hostRefusal number place
 
 -- ---- with what is left in the slices
 

@@ -19,6 +19,8 @@ use tables::RunAnswer;
 use texts::BytesAnswer;
 use texts::ReadAnswer;
 
+mod vector_exports; // vector_exports.rt: the calls on bare vectors
+
 // What every call answers: refusal 0 and up to two results, or the refusal's number and its place.
 #[repr(C)]
 pub struct Answer {
@@ -30,6 +32,9 @@ pub struct Answer {
 
 // The number in place of a refusal where there is none.
 pub const DONE: u32 = 0;
+
+// The number of an output bit that is unknown (X).
+pub const UNKNOWN_BIT: usize = 2;
 
 // A result of two numbers.
 fn done(result: usize, second: u64) -> Answer

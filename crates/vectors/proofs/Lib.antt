@@ -8,3 +8,4 @@ pub mod Joins
 pub mod Bests
 pub mod BestLaws
 pub mod Apart
+pub mod Told

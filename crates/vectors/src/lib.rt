@@ -1,6 +1,8 @@
 // What kernels exchange: a vector's two planes, and one output bit.
 ghost use mathlib.Core.Path.{_≡_};
-ghost use Prim.Native.Nat.{_/_, _%_, _^_};
+ghost use Prim.Native.Nat.{ℕ, _/_, _%_, _^_, _<_};
+ghost use Rattle.vectors.specs.Row.{row};
+ghost use Rattle.vectors.specs.OutputBits.{outputBit};
 
 // Mask and value of a vector; the width stands beside it.
 pub struct Vector {
@@ -13,6 +15,20 @@ pub enum OutputBit {
     Zero,
     One,
     Unknown,
+}
+
+// Bit k of a vector, whatever its width.
+pub fn bit_of(m: u32, v: u32, k: u32) -> OutputBit
+    requires { ⌜ k < 32 ⌝ }
+    ensures { λ r. ⌜ ((w : ℕ) → r ≡ outputBit (row w m v) k) ⌝ }
+{
+    if (m >> k) & 1 == 1 {
+        return OutputBit::Unknown;
+    }
+    if (v >> k) & 1 == 1 {
+        return OutputBit::One;
+    }
+    OutputBit::Zero
 }
 
 // A vector as one word: a function hands a word over in a register, a vector through memory.

@@ -2,13 +2,12 @@
 use mathlib.Core.Path.{_≡_, sym, ap, _∙_}
 use mathlib.Core.List.{List, _∷_}
 use borrow.Author.Tests.{lt-ltb, le-ltb}
-use lib.Dec.{nltb→le}
 use Rattle.operations.specs.Record.{fault}
 use Rattle.checks.specs.Check.{Check, placed}
 use Rattle.checks.specs.Checks.{lockOver, widthFaults, vectorFaults, rowFaults}
 use Rattle.checks.specs.Model.{verdictModel, judged}
 use Rattle.checks.proofs.Verdicts.{hits, skips, passed-of-done}
-use Rattle.checks.proofs.RowChecks.{positive}
+use Rattle.checks.proofs.RowChecks.{width-of-passed}
 use Rattle.checks.proofs.VerdictParts.{goes-on, stops}
 use borrow.Author.Needs.{needs}
 use Rattle.checks.proofs.rows.check_row.Statement.{statement}
@@ -44,7 +43,7 @@ check-vector-requires c κs =
     let f = t .before .before in
     let s = f .before in
     let P = passed-of-done (width s) tt tt (sym (f .check-width .ensures) ∙ ap verdictModel (t .enum-told2 .given .1)) in
-    (positive (s .args .w) (P .0), nltb→le _ _ (P .1 .0))
+    width-of-passed (s .args .w) (s .args .i) P
 
 returns-3 : tie.Need-returns-3
 returns-3 c = c .check-vector .ensures ∙ sym (past-width (c .before .before) ∙ skips _ _ (le-ltb _ _ (c .before .if1 .left)))

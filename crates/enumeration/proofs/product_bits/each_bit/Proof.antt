@@ -1,6 +1,5 @@
 -- `enumeration::product_bits::each_bit` is safe and ends. The bits below k are tried, and k is at most the width. Assumes nothing.
 use Prim.Native.Nat.{_≤_, _-_}
-use native.Mathlib.Omega.{arith}
 use borrow.Author.Needs.{needs}
 use Rattle.enumeration.proofs.product_bits.each_bit.Statement.{statement}
 use Rattle.enumeration.proofs.product_bits.each_bit.Tie as tie
@@ -10,11 +9,6 @@ Inv-loop w a b right tally₀ k₀ tally k = k ≤ w
 
 abbrev μ-loop : tie.MeasureT-loop
 μ-loop w a b right tally₀ k₀ tally k = w - k
-
-product-bit-requires : tie.Need-product-bit-requires Inv-loop μ-loop
-product-bit-requires c κs =
-    let s = c .before .before .before .before .before in
-    record { width = s .args .w; formed = record { most = omega arith; first = s .pre .2; second = s .pre .3 }; below = omega arith }
 
 pub each-bit-spec : {M : Type 1} → statement M
 each-bit-spec =
@@ -26,7 +20,7 @@ each-bit-spec =
     (λ c κs. search needs)
     (λ c κs. search needs)
     (λ c. search needs)
-    product-bit-requires
+    (λ c κs. search needs)
     (λ c. search needs)
     (λ c κs. search needs)
     (λ c κs. search needs)

@@ -1,6 +1,5 @@
 -- `enumeration::product_bits::each_first` is safe and ends. The pairs below n are tried, and n is at most their number. Assumes nothing.
 use Prim.Native.Nat.{_≤_, _-_}
-use native.Mathlib.Omega.{arith}
 use borrow.Author.Needs.{needs}
 use Rattle.enumeration.proofs.product_bits.each_first.Statement.{statement}
 use Rattle.enumeration.proofs.product_bits.each_first.Tie as tie
@@ -10,9 +9,6 @@ Inv-loop w end tally₀ n₀ tally n = n ≤ end
 
 abbrev μ-loop : tie.MeasureT-loop
 μ-loop w end tally₀ n₀ tally n = end - n
-
-each-second-requires : tie.Need-each-second-requires Inv-loop μ-loop
-each-second-requires c κs = (omega arith, omega arith, c .before .well-formed .ensures (c .if1 .taken))
 
 pub each-first-spec : {M : Type 1} → statement M
 each-first-spec =
@@ -25,7 +21,7 @@ each-first-spec =
     (λ c. search needs)
     (λ c κs. search needs)
     (λ c κs. search needs)
-    each-second-requires
+    (λ c κs. search needs)
     (λ c κs. search needs)
     (λ c. search needs)
     (λ c. search needs)

@@ -1,6 +1,5 @@
 -- `enumeration::product_bits::each_second` is safe and ends. The pairs below n are tried, and n is at most their number. Assumes nothing.
 use Prim.Native.Nat.{_≤_, _-_}
-use native.Mathlib.Omega.{arith}
 use borrow.Author.Needs.{needs}
 use Rattle.enumeration.proofs.product_bits.each_second.Statement.{statement}
 use Rattle.enumeration.proofs.product_bits.each_second.Tie as tie
@@ -10,9 +9,6 @@ Inv-loop w a end tally₀ n₀ tally n = n ≤ end
 
 abbrev μ-loop : tie.MeasureT-loop
 μ-loop w a end tally₀ n₀ tally n = end - n
-
-each-bit-requires : tie.Need-each-bit-requires Inv-loop μ-loop
-each-bit-requires c κs = (omega arith, omega arith, c .before .before .before .before .before .before .before .pre .2, c .before .well-formed .ensures (c .if1 .taken))
 
 pub each-second-spec : {M : Type 1} → statement M
 each-second-spec =
@@ -25,7 +21,7 @@ each-second-spec =
     (λ c. search needs)
     (λ c κs. search needs)
     (λ c κs. search needs)
-    each-bit-requires
+    (λ c κs. search needs)
     (λ c κs. search needs)
     (λ c. search needs)
     (λ c. search needs)

@@ -1,0 +1,2 @@
+-- The laws and proofs of `vector_calls`.
+pub mod Granting

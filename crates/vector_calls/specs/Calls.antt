@@ -1,0 +1,26 @@
+-- What the calls on bare vectors refuse and answer (02, request 6). A bare vector is 02's term for a vector that stands in no table.
+--   operandFaults w ma va mb vb        4 of the width, 5 of either vector of that width
+--   productBitChecks w ma va mb vb k   what product_bit refuses, in order
+--   productBitOf w ma va mb vb k       what it answers
+use mathlib.Core.List.{List, [], _∷_, _++_}
+use Prim.Native.Nat.{ℕ}
+use Rattle.vectors.specs.Row.{row}
+use Rattle.vectors.specs.declared.OutputBit.{OutputBit}
+use Rattle.vectors.specs.OutputBits.{outputBit}
+use Rattle.operations.specs.Record.{Fault}
+use Rattle.operations.specs.Arithmetic.{opMul}
+use Rattle.operations.specs.Result.{resultOf}
+use Rattle.checks.specs.Check.{Answer, Check, verdict, placed}
+use Rattle.checks.specs.Checks.{widthFaults, vectorFaults, bitFaults}
+
+-- "It checks what it took for granted, width as 4 and vectors as 5."
+abbrev pub operandFaults : ℕ → ℕ → ℕ → ℕ → ℕ → List Fault
+operandFaults w ma va mb vb = widthFaults w ++ (vectorFaults w ma va ++ vectorFaults w mb vb)
+
+-- "It refuses a bit number at or above the width as 15, after 5. A call on bare vectors puts place 0 on every refusal."
+unfoldable pub productBitChecks : ℕ → ℕ → ℕ → ℕ → ℕ → ℕ → List Check
+productBitChecks w ma va mb vb k = placed 0 (operandFaults w ma va mb vb ++ bitFaults w k)
+
+-- "a single product bit": that bit of the best result of mul, over one number for each vector, chosen freely
+unfoldable pub productBitOf : ℕ → ℕ → ℕ → ℕ → ℕ → ℕ → Answer OutputBit
+productBitOf w ma va mb vb k = verdict (productBitChecks w ma va mb vb k) (outputBit (resultOf opMul w 0 (row w ma va ∷ row w mb vb ∷ [])) k)

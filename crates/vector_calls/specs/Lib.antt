@@ -1,0 +1,3 @@
+-- The definitions of `vector_calls`.
+pub mod Calls
+pub mod Model

@@ -1,0 +1,69 @@
+// Random vectors, alone and as operands, and faults of them.
+#include "draw.h"
+
+unsigned draw_width(void)
+{
+    static const unsigned edges[] = {1, 31, 32, 32};
+    if (percent(15))
+        return edges[below(4)];
+    return (unsigned)(percent(60) ? 1 + below(6) : percent(50) ? 7 + below(10) : 17 + below(16));
+}
+
+static uint32_t few_bits(unsigned width)
+{
+    uint32_t n = 0;
+    for (size_t left = below(5); left > 0; left--)
+        n |= (uint32_t)1 << below(width);
+    return n;
+}
+
+struct ref_vector draw_vector(unsigned width, size_t style)
+{
+    uint32_t all = UINT32_MAX >> (32 - width);
+    uint32_t masks[] = {0, all, (uint32_t)draw(), (uint32_t)draw(), (uint32_t)draw()};
+    uint32_t mask = (style < 5 ? masks[style] : few_bits(width)) & all;
+    return (struct ref_vector){mask, (percent(10) ? 0 : percent(10) ? all : (uint32_t)draw()) & all & ~mask};
+}
+
+void damage_vector(struct ref_vector *v, uint32_t width)
+{
+    uint32_t inside = (uint32_t)1 << below(width > 0 && width < 33 ? width : 1);
+    uint32_t above = width < 32 ? (uint32_t)1 << (width + below(32 - width)) : 0;
+    if (percent(40))
+        v->mask |= above;
+    else if (percent(60))
+        v->value |= above;
+    else {
+        v->mask |= inside;
+        v->value |= inside;
+    }
+}
+
+uint32_t far_off(uint32_t limit)
+{
+    uint32_t small = (uint32_t)below(limit);
+    uint32_t far[] = {limit, limit + 1, limit + small, 256 + small, 65536 + small, 0x80000000u + small, UINT32_MAX};
+    return far[below(7)];
+}
+
+static void damage_operands(struct ref_operands *o)
+{
+    uint32_t limit = o->width >= 1 && o->width <= 32 ? o->width : 32;
+    switch (below(5)) {
+    case 0: o->width = percent(30) ? 0 : percent(20) ? (uint32_t)draw() : far_off(33); return;
+    case 1: o->width = 1 + (uint32_t)below(32); return; // the vectors and the bit stay
+    case 2: damage_vector(&o->a, o->width); return;
+    case 3: damage_vector(&o->b, o->width); return;
+    default: o->bit = percent(30) ? 31 + (uint32_t)below(2) : percent(20) ? (uint32_t)draw() : far_off(limit); return;
+    }
+}
+
+void draw_operands(struct ref_operands *o)
+{
+    o->width = draw_width();
+    o->bit = percent(25) ? o->width - 1 : (uint32_t)below(o->width);
+    o->a = draw_vector(o->width, below(STYLES));
+    o->b = percent(25) ? o->a : draw_vector(o->width, below(STYLES));
+    for (size_t faults = percent(50) ? 0 : 1 + below(4); faults > 0; faults--)
+        damage_operands(o);
+}
