@@ -92,11 +92,12 @@ void set_bit(Planes &c, const ColumnSums &h, uint32_t k)
         c.value |= static_cast<uint32_t>(zeta(h.min, k) & 1) << k;
 }
 
-// Lines 2 to 5.
+// The operands' reversed words.
 struct Reversed {
     Planes a, b;
 };
 
+// Lines 2 to 5.
 Reversed reverses(Planes a, Planes b)
 {
     return {{reversed(a.mask), reversed(a.value)}, {reversed(b.mask), reversed(b.value)}};
@@ -123,7 +124,7 @@ void set_column(Planes &c, Planes a, Planes b, const Reversed &rev, uint32_t k)
 
 } // namespace
 
-// Flattened: all that it calls is inlined, though algorithm2_bit calls it too.
+// Flattened: all that it calls is inlined, though algorithm2_bit calls the same functions.
 [[gnu::flatten]] Planes algorithm2(uint32_t w, uint32_t ma, uint32_t va, uint32_t mb, uint32_t vb)
 {
     Planes a = {ma, va}, b = {mb, vb}, c = {0, 0};

@@ -40,7 +40,7 @@ extern "C" {
 #define RIFFLERLEEK_ROW_LIMIT 256      /* rows in a table */
 #define RIFFLERLEEK_RECORD_LIMIT 1024  /* records in a table */
 #define RIFFLERLEEK_RECORD_WORDS 5     /* words in a record */
-#define RIFFLERLEEK_WIDTH_LIMIT 32     /* bits in a row */
+#define RIFFLERLEEK_WIDTH_LIMIT 32     /* bits in a row, or in a bare vector */
 #define RIFFLERLEEK_PARAMETER_LIMIT 31 /* greatest shift, rotation or extract parameter */
 #define RIFFLERLEEK_TEXT_LIMIT 40000   /* bytes in a text, with its header */
 #define RIFFLERLEEK_NUMBER_LIMIT 999   /* greatest number in a text */

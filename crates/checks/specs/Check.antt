@@ -2,7 +2,7 @@
 --   Answer A        the result, or a refusal holding its number and its place
 --   Check           a condition, and the number and place of the refusal that it causes
 --   verdict cs a    the first check whose condition holds refuses; where none holds the answer is a
---   placed i fs     a record's or a row's faults as checks with the place i
+--   placed i fs     faults as checks with the place i
 --   rising f i n    the lists f i, f (i + 1), .. , of which there are n, one after another
 --   Passed cs       no condition of cs holds
 use mathlib.Core.Bool.{Bool, not, cond}

@@ -1,4 +1,4 @@
--- The checks of the calls on a table (01, "Who can cause a refusal"), each condition by name, each call's list in 01's order:
+-- The checks of the calls on a table (01, "Who can cause a refusal"), and of a bit number (02, request 6), each condition by name, each call's list in 01's order:
 -- "1, 2, 3; rows rising, 4 before 5; records rising, 6 to 10 in number order". Checks of a record: crate operations, Record.
 --   noRows, tooManyRows        the conditions of 1;   locksDiffer, masksDiffer, valuesDiffer   of 2
 --   wordsLeftOver, tooManyRecords, firstAfterLast, lastPastEnd   of 3

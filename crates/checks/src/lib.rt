@@ -1,4 +1,4 @@
-// Tables: the checks of their rows and records.
+// Tables: the checks of their rows and records, and of a bit number.
 ghost use mathlib.Core.Path.{_≡_};
 ghost use mathlib.Core.List.{List, _++_};
 ghost use Rattle.checks.specs.Check.{refused, Check};

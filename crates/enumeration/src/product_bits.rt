@@ -1,4 +1,5 @@
-// Every bit of every product to width 4, through the public `product_bit`: `mul` works out few columns by the routine under it, and none at these widths.
+// Every bit of every product to width 4, through the public `product_bit`. Both it and `mul` work out a column by algorithm 2, but `mul` does so only
+// where no choice that it tries settles the column.
 ghost use Prim.Native.Nat.{_≤_};
 ghost use Rattle.bits.specs.Limits.{widthLimit};
 ghost use Rattle.oracle.specs.Sizes.{Sized};

@@ -101,18 +101,8 @@ fn unknown_left(unsettled: u32, ma: u32, va: u32, mb: u32, vb: u32) -> u32
     unknown_among(left, ma, va, mb, vb)
 }
 
-// Bit k of the product, for a caller that has checked: unknown where column k is, else that of the values' product. No width is asked for: the
-// answer is right at every width above k at which the vectors are well formed.
-pub fn product_bit_unchecked(ma: u32, va: u32, mb: u32, vb: u32, k: u32) -> OutputBit
-    requires { ⌜ Granted ma va mb vb k ⌝ }
-    ensures { λ r. ⌜ ((w : ℕ) → k < w → WellFormed (row w ma va) → WellFormed (row w mb vb) → r ≡ outputBit (resultOf opMul w 0 (row w ma va ∷ row w mb vb ∷ [])) k) ⌝ }
-{
-    let unknown = unknown_left(1u32 << k, ma, va, mb, vb);
-    bit_of(unknown, product(va, vb), k)
-}
-
 // The same. Every choice of the few unknown bits below the cut settles the columns below it, and shows some of the others to be unknown. Where no
-// column below it is open they are not tried: so `unknown_left` is called at two places, and stays a function of its own beside the rest.
+// column below it is open they are not tried: so `unknown_left` is called at two places here, and stays a function of its own beside the rest.
 fn unknown_open(unsettled: u32, ma: u32, va: u32, mb: u32, vb: u32) -> u32
     requires { ⌜ Marks (Granted ma va mb vb) unsettled ⌝ }
     ensures { λ r. ⌜ ((w : ℕ) → Formed w ma va mb vb → unsettled < 2 ^ w → r ≡ bitAnd unsettled (productOf w ma va mb vb .mask)) ⌝ }
@@ -188,4 +178,14 @@ pub fn mul_unknown(w: u32, ma: u32, va: u32, mb: u32, vb: u32) -> Vector
     ensures { λ r. ⌜ row w (r .mask) (r .value) ≡ resultOf opMul w 0 (row w ma va ∷ row w mb vb ∷ []) ⌝ }
 {
     unpack(packed_unknown(w, ma, va, mb, vb))
+}
+
+// Bit k of the product, for a caller that has checked: unknown where column k is, else that of the values' product. No width is asked for: the
+// answer is right at every width above k at which the vectors are well formed.
+pub fn product_bit_unchecked(ma: u32, va: u32, mb: u32, vb: u32, k: u32) -> OutputBit
+    requires { ⌜ Granted ma va mb vb k ⌝ }
+    ensures { λ r. ⌜ ((w : ℕ) → k < w → WellFormed (row w ma va) → WellFormed (row w mb vb) → r ≡ outputBit (resultOf opMul w 0 (row w ma va ∷ row w mb vb ∷ [])) k) ⌝ }
+{
+    let unknown = unknown_left(1u32 << k, ma, va, mb, vb);
+    bit_of(unknown, product(va, vb), k)
 }

@@ -21,6 +21,6 @@ operandFaults w ma va mb vb = widthFaults w ++ (vectorFaults w ma va ++ vectorFa
 unfoldable pub productBitChecks : ℕ → ℕ → ℕ → ℕ → ℕ → ℕ → List Check
 productBitChecks w ma va mb vb k = placed 0 (operandFaults w ma va mb vb ++ bitFaults w k)
 
--- "a single product bit": that bit of the best result of mul, over one number for each vector, chosen freely
+-- "a single product bit": that bit of the best result of mul over the two vectors, each operand chosen independently (01, "Abstract result")
 unfoldable pub productBitOf : ℕ → ℕ → ℕ → ℕ → ℕ → ℕ → Answer OutputBit
 productBitOf w ma va mb vb k = verdict (productBitChecks w ma va mb vb k) (outputBit (resultOf opMul w 0 (row w ma va ∷ row w mb vb ∷ [])) k)
