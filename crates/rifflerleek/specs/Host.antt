@@ -40,7 +40,7 @@ countsAnswer (refused number place) = hostRefusal number place
 abbrev pub endsAnswer : Ends → HostAnswer
 endsAnswer e = hostResult (e .start) (e .end)
 
--- a bit is 0, 1 or X (01, "Vectors and rows"); the number 2 for X is this library's own
+-- a bit is 0, 1 or X (01, "Abstract result"); the number 2 for X is this library's own
 abbrev pub bitNumber : OutputBit → ℕ
 bitNumber Zero = 0
 bitNumber One = 1
