@@ -56,9 +56,9 @@ void print_figures(const std::vector<Figures> &all)
     print_markdown(lines);
 }
 
-std::vector<Ratio> judged(const MulGoal &goal, const std::vector<Figures> &all)
+std::vector<Measured> judged(const MulGoal &goal, const std::vector<Figures> &all)
 {
-    std::vector<Ratio> ratios;
+    std::vector<Measured> ratios;
     for (const Figures &f : all)
         if (goal.from <= f.inputs.first && f.inputs.second <= goal.to)
             ratios.push_back({"unknown bits " + name_of(f.inputs), f.algorithm2 / f.mul});

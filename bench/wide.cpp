@@ -84,7 +84,7 @@ void print_figures(const char *top_bits, const std::vector<Figures> &all)
 
 void print_verdicts(const Goals &goals, const std::vector<Figures> &all)
 {
-    std::vector<Ratio> none, some;
+    std::vector<Measured> none, some;
     for (const Figures &f : all) {
         std::string place = std::string(f.trial.wide.name) + ", unknown bits " + name_of(f.trial.inputs);
         (f.trial.inputs.first == 0 ? none : some).push_back({place, f.wide / f.mul});

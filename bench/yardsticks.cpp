@@ -29,7 +29,7 @@ Line line_of(const char *kernel, const char *plain, const Inputs &inputs, const 
     return {kernel, plain, name_of(inputs), figure(times[0] / PAIRS), figure(times[1] / PAIRS), figure(times[0] / times[1])};
 }
 
-Ratio ratio_of(const Inputs &inputs, const double *times)
+Measured ratio_of(const Inputs &inputs, const double *times)
 {
     return {"unknown bits " + name_of(inputs), times[0] / times[1]};
 }
@@ -48,7 +48,7 @@ int main()
     std::vector<double> times = measure(contestants);
     std::vector<Line> lines = {{"kernel", "plain", "unknown bits", "kernel, ns", "plain, ns", "kernel / plain"},
                                line_of("kernel_mul", "product", known, &times[0])};
-    std::vector<Ratio> ratios;
+    std::vector<Measured> ratios;
     for (std::size_t i = 0; i < inputs.size(); i++) {
         lines.push_back(line_of("kernel_add", "two sums", inputs[i], &times[2 + 2 * i]));
         ratios.push_back(ratio_of(inputs[i], &times[2 + 2 * i]));

@@ -22,11 +22,11 @@ static const char text[] = "row\tlocked\t0000XXXX\n" // 0: index, 0 to 15
                            "op\tult\t4\t3\t2\t0\n";
 
 // Whether a call was refused: says so, and why.
-static int refused(const char *call, rifflerleek_answer a)
+static int refused(const char *call, uint32_t refusal, size_t place)
 {
-    if (a.refusal != RIFFLERLEEK_DONE)
-        printf("%s: refusal %u at %zu\n", call, a.refusal, a.place);
-    return a.refusal != RIFFLERLEEK_DONE;
+    if (refusal != RIFFLERLEEK_DONE)
+        printf("%s: refusal %u at %zu\n", call, refusal, place);
+    return refusal != RIFFLERLEEK_DONE;
 }
 
 static int load(const char *bytes)
@@ -34,7 +34,7 @@ static int load(const char *bytes)
     const uint8_t *lent = (const uint8_t *)bytes;
     size_t length = strlen(bytes);
     rifflerleek_answer a = rifflerleek_read(lent, length, width, ROWS, lock, ROWS, mask, ROWS, value, ROWS, words, WORDS * RECORDS);
-    if (refused("read", a)) {
+    if (refused("read", a.refusal, a.place)) {
         if (a.refusal == RIFFLERLEEK_REFUSED_LINE) { // name the operation of the line refused
             rifflerleek_answer f = rifflerleek_field(lent, length, a.place, 2);
             printf("its second field: %.*s\n", (int)(f.second_result - f.result), bytes + f.result);
@@ -49,7 +49,7 @@ static int load(const char *bytes)
 static void run(void)
 {
     rifflerleek_answer a = rifflerleek_run(width, rows, lock, rows, mask, rows, value, rows, words, WORDS * records, 0, records);
-    if (refused("run", a)) // the rows are as they were
+    if (refused("run", a.refusal, a.place)) // the rows are as they were
         return;
     a = rifflerleek_write(width, rows, lock, rows, mask, rows, value, rows, words, WORDS * records, out, sizeof out);
     fwrite(out, 1, a.result, stdout);
@@ -58,7 +58,7 @@ static void run(void)
 static void count(size_t row)
 {
     rifflerleek_answer a = rifflerleek_count(width, rows, lock, rows, mask, rows, value, rows, row);
-    if (!refused("count", a))
+    if (!refused("count", a.refusal, a.place))
         printf("row %zu: %zu unknown bits, %llu numbers\n", row, a.result, (unsigned long long)a.second_result);
 }
 
@@ -68,11 +68,19 @@ static void product(void)
     char letters[] = "????";
     for (uint32_t bit = 0; bit < 4; bit++) {
         rifflerleek_answer a = rifflerleek_product_bit(4, 0, 3, 2, 1, bit);
-        if (refused("product_bit", a))
+        if (refused("product_bit", a.refusal, a.place))
             return;
         letters[3 - bit] = a.result == RIFFLERLEEK_UNKNOWN_BIT ? 'X' : a.result == 1 ? '1' : '0';
     }
     printf("0011 times 00X1: %s\n", letters);
+}
+
+// Why a bit of a sum of two bare vectors of width 3 is X: two plain sums that differ in it.
+static void explain(void)
+{
+    rifflerleek_four_numbers n = rifflerleek_witnesses(RIFFLERLEEK_KIND_ADD, 3, 2, 0, 0, 3, 2);
+    if (!refused("witnesses", n.refusal, n.place))
+        printf("bit 2 of 0X0 + 011: 0 from %u + %u, 1 from %u + %u\n", n.first, n.second, n.third, n.fourth);
 }
 
 int main(void)
@@ -94,5 +102,6 @@ int main(void)
         return 1;
 
     product(); // 3 or 9
+    explain(); // 3 or 5
     return 0;
 }

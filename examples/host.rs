@@ -8,6 +8,7 @@ mod host {
     pub const RECORD_WORDS: usize = 5;
     pub const DONE: u32 = 0;
     pub const UNKNOWN_BIT: usize = 2;
+    pub const KIND_ADD: u32 = 13;
 
     #[repr(C)]
     pub struct Answer {
@@ -16,6 +17,10 @@ mod host {
         pub result: usize,
         pub second_result: u64,
     }
+
+    #[rustfmt::skip]
+    #[repr(C)]
+    pub struct FourNumbers { pub refusal: u32, pub place: usize, pub first: u32, pub second: u32, pub third: u32, pub fourth: u32 }
 
     #[rustfmt::skip]
     #[link(name = "rifflerleek", kind = "static")]
@@ -27,6 +32,7 @@ mod host {
         pub fn rifflerleek_read(text: *const u8, text_length: usize, width: *mut u8, widths: usize, lock: *mut u8, locks: usize, mask: *mut u32, masks: usize, value: *mut u32, values: usize, words: *mut u32, word_count: usize) -> Answer;
         pub fn rifflerleek_field(text: *const u8, text_length: usize, line: usize, field: usize) -> Answer;
         pub fn rifflerleek_product_bit(width: u32, mask_a: u32, value_a: u32, mask_b: u32, value_b: u32, bit: u32) -> Answer;
+        pub fn rifflerleek_witnesses(kind: u32, width: u32, mask_a: u32, value_a: u32, mask_b: u32, value_b: u32, bit: u32) -> FourNumbers;
     }
 }
 
@@ -36,8 +42,12 @@ struct Refusal {
 }
 
 // Every call answers, on every input: there is nothing to catch.
+fn given<T>(refusal: u32, place: usize, what: T) -> Result<T, Refusal> {
+    if refusal == host::DONE { Ok(what) } else { Err(Refusal { number: refusal, place }) }
+}
+
 fn result(a: host::Answer) -> Result<(usize, u64), Refusal> {
-    if a.refusal == host::DONE { Ok((a.result, a.second_result)) } else { Err(Refusal { number: a.refusal, place: a.place }) }
+    given(a.refusal, a.place, (a.result, a.second_result))
 }
 
 struct Table {
@@ -117,6 +127,12 @@ fn product(width: u32, a: &Bare, b: &Bare) -> Result<String, Refusal> {
     (0..width).rev().map(letter).collect()
 }
 
+/// Two pairs of numbers: the first pair's sum has 0 at the bit, the second's has 1.
+fn explain(width: u32, a: &Bare, b: &Bare, bit: u32) -> Result<[(u32, u32); 2], Refusal> {
+    let n = unsafe { host::rifflerleek_witnesses(host::KIND_ADD, width, a.mask, a.value, b.mask, b.value, bit) };
+    given(n.refusal, n.place, [(n.first, n.second), (n.third, n.fourth)])
+}
+
 const TEXT: &str = "row\tlocked\t0000XXXX
 row\tlocked\t01000000
 row\tlocked\t10000000
@@ -146,6 +162,15 @@ fn evaluate() -> Result<(), Refusal> {
     run_and_print(&mut t, 4)
 }
 
+// Calls on vectors that stand in no table.
+fn ask() -> Result<(), Refusal> {
+    let letters = product(4, &Bare { mask: 0, value: 3 }, &Bare { mask: 2, value: 1 })?;
+    println!("0011 times 00X1: {letters}"); // 3 or 9
+    let [(a, b), (c, d)] = explain(3, &Bare { mask: 2, value: 0 }, &Bare { mask: 0, value: 3 }, 2)?;
+    println!("bit 2 of 0X0 + 011: 0 from {a} + {b}, 1 from {c} + {d}"); // 3 or 5
+    Ok(())
+}
+
 fn main() {
     if let Err(r) = evaluate() {
         println!("run: refusal {} at {}", r.number, r.place);
@@ -155,8 +180,7 @@ fn main() {
         println!("read: refusal {} at {}", r.number, r.place);
         println!("its second field: {}", field(bad, r.place, 2));
     }
-    match product(4, &Bare { mask: 0, value: 3 }, &Bare { mask: 2, value: 1 }) {
-        Ok(letters) => println!("0011 times 00X1: {letters}"), // 3 or 9
-        Err(r) => println!("product_bit: refusal {} at {}", r.number, r.place),
+    if let Err(r) = ask() {
+        println!("ask: refusal {} at {}", r.number, r.place);
     }
 }

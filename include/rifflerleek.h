@@ -14,7 +14,8 @@
  * Slices. A slice is passed as a pointer and its number of elements. The pointer is aligned and not NULL, also where the number
  * is 0, and a slice that a call may write overlaps no other slice of that call.
  *
- * Answers. Every call returns by an answer, on every input. A refusal leaves every slice as it was lent.
+ * Answers. Every call returns by an answer, of one of the two structs below, on every input. A refusal leaves every slice as it was
+ * lent.
  *
  * Memory and threads. A call uses what it is lent and some stack, at most RIFFLERLEEK_STACK_LIMIT bytes. It allocates nothing and
  * keeps nothing between calls, so calls may run on several threads at once, if no slice that one of them may write overlaps a slice
@@ -34,7 +35,7 @@ extern "C" {
 
 /* Rises by one with every change that a host can see: of a name, a number, a call, an answer or a lent byte. The header that had
  * no version is version 1. CHANGELOG.md names the changes. */
-#define RIFFLERLEEK_VERSION 8
+#define RIFFLERLEEK_VERSION 9
 
 /* Limits. */
 #define RIFFLERLEEK_ROW_LIMIT 256      /* rows in a table */
@@ -65,6 +66,7 @@ extern "C" {
  *   rifflerleek_read             3    488
  *   rifflerleek_field            1     16
  *   rifflerleek_product_bit      2    424
+ *   rifflerleek_witnesses        3    568
  */
 #define RIFFLERLEEK_DEPTH_LIMIT 4   /* the greatest depth of a call */
 #define RIFFLERLEEK_STACK_LIMIT 728 /* the greatest stack of a call, in bytes */
@@ -77,6 +79,17 @@ typedef struct rifflerleek_answer {
     size_t result;
     uint64_t second_result;
 } rifflerleek_answer;
+
+/* The answer of a call that gives four numbers. A result: refusal is RIFFLERLEEK_DONE, place is 0, and the numbers are what the call
+ * says. A refusal: its number and its place; the four numbers are 0. */
+typedef struct rifflerleek_four_numbers {
+    uint32_t refusal;
+    size_t place;
+    uint32_t first;
+    uint32_t second;
+    uint32_t third;
+    uint32_t fourth;
+} rifflerleek_four_numbers;
 
 /* The kinds of records. Their names in a text are the parts after KIND_, in small letters. */
 enum {
@@ -112,17 +125,18 @@ enum {
  *   count              1, 2; then the rows from 0 on, at each 4 before 5; then 7
  *   read               2, 11, 12, 13; the table that was read is checked by run, size and write, not by read
  *   field              never refuses
- *   product_bit        4, 5, 15 */
+ *   product_bit        4, 5, 15
+ *   witnesses          4, 5, 6, 15, 16 */
 enum {
     RIFFLERLEEK_DONE = 0,            /* no refusal */
     RIFFLERLEEK_REFUSED_ROWS = 1,    /* the width slice has no row, or more than the row limit; place 0 */
     RIFFLERLEEK_REFUSED_LENGTHS = 2, /* the four row slices differ in length; place 0 */
     RIFFLERLEEK_REFUSED_RECORDS = 3, /* the words are not whole records, or more than the record limit; in run also: first is after
                                         last, or last is past the end; place 0 */
-    RIFFLERLEEK_REFUSED_WIDTH = 4,   /* a width is 0 or over the width limit, or a lock is over 1; the row (of product_bit: 0) */
-    RIFFLERLEEK_REFUSED_VECTOR = 5,  /* mask and value share a set bit, or one has a bit at or above the width; the row (of
-                                        product_bit: 0) */
-    RIFFLERLEEK_REFUSED_KIND = 6,    /* no kind has this number; the record */
+    RIFFLERLEEK_REFUSED_WIDTH = 4,   /* a width is 0 or over the width limit, or a lock is over 1; the row (of bare vectors: 0) */
+    RIFFLERLEEK_REFUSED_VECTOR = 5,  /* mask and value share a set bit, or one has a bit at or above the width; the row (of bare
+                                        vectors: 0) */
+    RIFFLERLEEK_REFUSED_KIND = 6,    /* no kind has this number; the record. In witnesses: the kind is not add, sub or mul; place 0 */
     RIFFLERLEEK_REFUSED_ROW = 7,     /* a used row word is outside the table; the record (of count: the row named) */
     RIFFLERLEEK_REFUSED_WORD = 8,    /* an unused word is not 0, or a parameter is over the parameter limit; the record */
     RIFFLERLEEK_REFUSED_FIT = 9,     /* the widths of target and operands do not fit the kind; the record */
@@ -133,7 +147,8 @@ enum {
                                         another edition than 2, it is outside the grammar */
     RIFFLERLEEK_REFUSED_ROOM = 13,   /* row lines or record words exceed the lent slices; place 0 */
     RIFFLERLEEK_REFUSED_BUFFER = 14, /* the output buffer is shorter than the table's text; place 0 */
-    RIFFLERLEEK_REFUSED_BIT = 15     /* the bit number is at or above the width; place 0 */
+    RIFFLERLEEK_REFUSED_BIT = 15,    /* the bit number is at or above the width; place 0 */
+    RIFFLERLEEK_REFUSED_KNOWN = 16   /* the bit is known: it is the same for every choice of numbers that the vectors cover; place 0 */
 };
 
 /* Runs the records from first up to but not including last, after a check of the whole table. result is last, and mask and value
@@ -182,6 +197,13 @@ rifflerleek_answer rifflerleek_field(const uint8_t *text, size_t text_length, si
  * are independent, also where both vectors are equal. Refusals 4, 5, 15. */
 rifflerleek_answer rifflerleek_product_bit(uint32_t width, uint32_t mask_a, uint32_t value_a, uint32_t mask_b, uint32_t value_b,
                                            uint32_t bit);
+
+/* Why a bit of a sum, difference or product of two bare vectors, modulo 2^width, is unknown: two pairs of plain operands, which the
+ * vectors cover and whose results differ in that bit. kind is RIFFLERLEEK_KIND_ADD, RIFFLERLEEK_KIND_SUB or RIFFLERLEEK_KIND_MUL; bit
+ * is the bit's number, from 0. With a = first and b = second the plain result has 0 at the bit, with a = third and b = fourth it has 1.
+ * Which such pairs they are is left open. The operands are independent, also where both vectors are equal. Refusals 4, 5, 6, 15, 16. */
+rifflerleek_four_numbers rifflerleek_witnesses(uint32_t kind, uint32_t width, uint32_t mask_a, uint32_t value_a, uint32_t mask_b,
+                                               uint32_t value_b, uint32_t bit);
 
 #ifdef __cplusplus
 }

@@ -6,7 +6,7 @@
 
 enum { GUARD = 64 };
 
-const char *const call_names[CALLS] = {"run", "count", "size", "write", "read", "listing", "field", "product_bit"};
+const char *const call_names[CALLS] = {"run", "count", "size", "write", "read", "listing", "field", "product_bit", "witnesses"};
 unsigned seen[CALLS][REFUSALS];
 size_t call_number;
 

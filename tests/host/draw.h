@@ -29,7 +29,7 @@ uint64_t draw(void);
 size_t below(size_t n);
 int percent(unsigned p);
 
-// A width, 1 to 32; a vector of it, whose unknown bits are by its style: 0 none, 1 all, 2 to 4 any, else few.
+// A width, 1 to 32; a vector of it, whose unknown bits are by its style: 0 none, 1 all, 2 to 4 any, 5 a run, else few.
 unsigned draw_width(void);
 struct ref_vector draw_vector(unsigned width, size_t style);
 
@@ -39,7 +39,8 @@ void damage_vector(struct ref_vector *v, uint32_t width);
 // The limit, 1 to 256, or a number over it; some of them a careless cast would take for small ones.
 uint32_t far_off(uint32_t limit);
 
-// Two bare vectors of one width, often equal, and the number of a bit: half of them with up to four faults.
+// Two bare vectors of one width, often equal, often with several terms of the product's bit that have two unknown bits, the number of
+// that bit, and a kind that witnesses takes: half of them with up to four faults.
 void draw_operands(struct ref_operands *o);
 
 // The five slices of a draft.

@@ -17,11 +17,17 @@ static uint32_t few_bits(unsigned width)
     return n;
 }
 
+static uint32_t run_of_bits(unsigned width)
+{
+    size_t low = below(width);
+    return UINT32_MAX >> below(width - low) >> (32 - width + low) << low;
+}
+
 struct ref_vector draw_vector(unsigned width, size_t style)
 {
     uint32_t all = UINT32_MAX >> (32 - width);
-    uint32_t masks[] = {0, all, (uint32_t)draw(), (uint32_t)draw(), (uint32_t)draw()};
-    uint32_t mask = (style < 5 ? masks[style] : few_bits(width)) & all;
+    uint32_t masks[] = {0, all, (uint32_t)draw(), (uint32_t)draw(), (uint32_t)draw(), run_of_bits(width)};
+    uint32_t mask = (style < 6 ? masks[style] : few_bits(width)) & all;
     return (struct ref_vector){mask, (percent(10) ? 0 : percent(10) ? all : (uint32_t)draw()) & all & ~mask};
 }
 
@@ -49,21 +55,38 @@ uint32_t far_off(uint32_t limit)
 static void damage_operands(struct ref_operands *o)
 {
     uint32_t limit = o->width >= 1 && o->width <= 32 ? o->width : 32;
-    switch (below(5)) {
+    switch (below(6)) {
     case 0: o->width = percent(30) ? 0 : percent(20) ? (uint32_t)draw() : far_off(33); return;
     case 1: o->width = 1 + (uint32_t)below(32); return; // the vectors and the bit stay
     case 2: damage_vector(&o->a, o->width); return;
     case 3: damage_vector(&o->b, o->width); return;
+    case 4: o->kind = percent(70) ? (uint32_t)below(KINDS) : percent(20) ? (uint32_t)draw() : far_off(KINDS); return;
     default: o->bit = percent(30) ? 31 + (uint32_t)below(2) : percent(20) ? (uint32_t)draw() : far_off(limit); return;
     }
 }
 
+// Makes bit i of a and bit - i of b unknown, for up to four i.
+static void make_unknown(struct ref_operands *o)
+{
+    for (size_t left = 2 + below(3); left > 0; left--) {
+        size_t i = below(o->bit + 1);
+        o->a.mask |= (uint32_t)1 << i;
+        o->b.mask |= (uint32_t)1 << (o->bit - i);
+    }
+    o->a.value &= ~o->a.mask;
+    o->b.value &= ~o->b.mask;
+}
+
 void draw_operands(struct ref_operands *o)
 {
+    static const uint32_t right[] = {ADD, SUB, MUL, MUL};
+    o->kind = right[below(4)];
     o->width = draw_width();
     o->bit = percent(25) ? o->width - 1 : (uint32_t)below(o->width);
     o->a = draw_vector(o->width, below(STYLES));
     o->b = percent(25) ? o->a : draw_vector(o->width, below(STYLES));
+    if (percent(20))
+        make_unknown(o);
     for (size_t faults = percent(50) ? 0 : 1 + below(4); faults > 0; faults--)
         damage_operands(o);
 }

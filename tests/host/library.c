@@ -6,7 +6,7 @@
 
 enum { STACK = 1 << 16, PAINT = 0x5c };
 
-// The call at hand: its slices, its buffer or text, its two numbers, its bare vectors, and its answer.
+// The call at hand: its slices, its buffer or text, its two numbers, its bare vectors, and its answer, of either struct.
 static struct {
     struct ref_table t;
     uint8_t *out;
@@ -14,6 +14,7 @@ static struct {
     size_t length, x, y;
     struct ref_operands o;
     rifflerleek_answer answer;
+    rifflerleek_four_numbers numbers;
 } call;
 
 static unsigned char stack[STACK];
@@ -82,6 +83,12 @@ static void make_product_bit(void)
     call.answer = rifflerleek_product_bit(o->width, o->a.mask, o->a.value, o->b.mask, o->b.value, o->bit);
 }
 
+static void make_witnesses(void)
+{
+    const struct ref_operands *o = &call.o;
+    call.numbers = rifflerleek_witnesses(o->kind, o->width, o->a.mask, o->a.value, o->b.mask, o->b.value, o->bit);
+}
+
 rifflerleek_answer library_run(struct ref_table *t, size_t first, size_t last)
 {
     call.t = *t;
@@ -132,4 +139,11 @@ rifflerleek_answer library_product_bit(const struct ref_operands *o)
 {
     call.o = *o;
     return on_stack(make_product_bit);
+}
+
+rifflerleek_four_numbers library_witnesses(const struct ref_operands *o)
+{
+    call.o = *o;
+    on_stack(make_witnesses);
+    return call.numbers;
 }

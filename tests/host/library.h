@@ -13,6 +13,7 @@ rifflerleek_answer library_write(struct ref_table *t, uint8_t *out, size_t lengt
 rifflerleek_answer library_read(const uint8_t *text, size_t length, struct ref_table *t);
 rifflerleek_answer library_field(const uint8_t *text, size_t length, size_t line, size_t field);
 rifflerleek_answer library_product_bit(const struct ref_operands *o);
+rifflerleek_four_numbers library_witnesses(const struct ref_operands *o);
 
 // The most bytes of stack that a call has taken so far, with those that making it takes: at most LIBRARY_CALLER, for the frame of the
 // function that makes it and for its arguments.

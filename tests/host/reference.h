@@ -23,13 +23,13 @@ struct ref_vector {
     uint32_t mask, value;
 };
 
-// Two bare vectors of one width, and the number of a bit.
+// Two bare vectors of one width, the number of a bit, and a kind, which witnesses alone is given.
 struct ref_operands {
-    uint32_t width, bit;
+    uint32_t kind, width, bit;
     struct ref_vector a, b;
 };
 
-enum { KINDS = 24, MUL = 16, ITE = 20, UMULW = 21, SMULW = 22, SUMULW = 23 };
+enum { KINDS = 24, ADD = 13, SUB = 14, MUL = 16, ITE = 20, UMULW = 21, SMULW = 22, SUMULW = 23 };
 
 // What a word of a record means for its kind.
 enum use { NOTHING, ROW, NUMBER };
@@ -93,5 +93,12 @@ struct ref_answer ref_field(const uint8_t *text, size_t length, size_t line, siz
 
 // exact becomes 0 where 2^limit choices do not settle the bit: the answer then says nothing.
 struct ref_answer ref_product_bit(const struct ref_operands *o, unsigned limit, int *exact);
+
+// The refusal of witnesses, 0 where the bit is unknown. exact becomes 0 where 2^limit choices do not settle the bit: it is then taken for
+// unknown, which pairs that show both values prove.
+uint32_t ref_witnesses(const struct ref_operands *o, unsigned limit, int *exact);
+
+// Whether the vectors, which witnesses accepts, cover a and b, and the plain result of a and b has this value at the bit.
+int ref_shows(const struct ref_operands *o, uint32_t a, uint32_t b, uint64_t value);
 
 #endif

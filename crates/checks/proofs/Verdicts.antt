@@ -103,3 +103,15 @@ verdict-refused {A} {B} (c ∷ cs) ds a b n i e = go (c .fails) e (verdict-refus
 -- a refusal does not depend on what the answer would have been
 pub refused-any : {A B : Type 0} (cs : List Check) (a : A) (b : B) (n i : ℕ) → verdict cs a ≡ refused n i → verdict cs b ≡ refused n i
 refused-any cs a b n i e = ap (λ (l : List Check). verdict l b) (sym (append-nil cs)) ∙ verdict-refused cs [] a b n i e
+
+-- ---- an answer is a result or a refusal
+
+pub done-same : {A : Type 0} (a b : A) → done a ≡ done b → a ≡ b
+done-same {A} a b e = ap result e
+  where
+    result : Answer A → A
+    result (done x) = x
+    result (refused n i) = a
+
+pub not-done : {A : Type 0} (n i : ℕ) (a : A) → refused n i ≡ done a → ⊥
+not-done n i a e = let z : _≡_ {A = ℕ} 0 1 = cc in omega arith

@@ -29,3 +29,5 @@ pub const ROOM: u32 = 13;
 pub const BUFFER: u32 = 14;
 
 pub const BIT: u32 = 15;
+
+pub const KNOWN: u32 = 16;

@@ -71,6 +71,7 @@ fn print_refusals() {
     print_refusal(b"room", refusals::ROOM);
     print_refusal(b"buffer", refusals::BUFFER);
     print_refusal(b"bit", refusals::BIT);
+    print_refusal(b"known", refusals::KNOWN);
 }
 
 // The most bytes of a row line, as the definitions have it.

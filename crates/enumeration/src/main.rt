@@ -1,8 +1,8 @@
 // The executed tests: every vector pair to width 4, through the public run on real tables, against plain enumeration of all choices.
-// The output has a line for each kind, then one for all records that name one row twice, one for `product_bit`, one for the examples and the total: the
-// name, the tables tried (for `product_bit` the bits), those that disagree.
+// The output has a line for each kind, then one for all records that name one row twice, one for `product_bit`, one for `witnesses`, one for the examples
+// and the total: the name, the tables tried (for `product_bit` and `witnesses` the bits), those that disagree.
+use bare_vectors::each_width;
 use oracle::shapes::KINDS;
-use product_bits::product_bits;
 use report::print_kind;
 use report::print_line;
 use sweeps::sweep;
@@ -10,7 +10,8 @@ use trials::counting::joined;
 use trials::counting::none;
 use trials::examples::examples;
 
-mod product_bits; // product_bits.rt: every bit of every product
+mod answers; // answers.rt: whether an answer about bare vectors is right
+mod bare_vectors; // bare_vectors.rt: every bit of every sum, difference and product
 mod report; // report.rt: the lines of the output
 mod sweeps; // sweeps.rt: all tables of a kind
 
@@ -28,12 +29,18 @@ fn main() {
     }
     io::write_all(1, b"named twice");
     print_line(twice);
-    let bits = product_bits();
+    let bits = each_width(false, 16);
     io::write_all(1, b"product_bit");
     print_line(bits);
+    let pairs = joined(
+        joined(each_width(true, 13), each_width(true, 14)),
+        each_width(true, 16),
+    );
+    io::write_all(1, b"witnesses");
+    print_line(pairs);
     let shown = examples();
     io::write_all(1, b"examples");
     print_line(shown);
     io::write_all(1, b"total");
-    print_line(joined(joined(total, twice), joined(bits, shown)));
+    print_line(joined(joined(total, twice), joined(joined(bits, pairs), shown)));
 }

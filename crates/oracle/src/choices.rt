@@ -35,7 +35,7 @@ fn both(a: Seen, b: Seen) -> Seen {
 }
 
 // Whether a row of width w covers x: they agree at every known bit, one by one.
-fn covers(w: u64, row: Row, x: u64) -> bool
+pub fn covers(w: u64, row: Row, x: u64) -> bool
     requires { ⌜ w ≤ widthLimit ⌝ }
 {
     let mask = row.mask as u64;

@@ -1,4 +1,4 @@
--- The refusals of run have numbers from 1 on. Assumes nothing.
+-- The refusals of run and of witnesses have numbers from 1 on. Assumes nothing.
 use mathlib.Core.Path.{_≡_, ap}
 use mathlib.Core.Bool.{Bool, true, false, cond, _&&_}
 use mathlib.Core.List.{List, [], _∷_, _++_}
@@ -10,7 +10,9 @@ use Rattle.bits.proofs.Bools.{T-and, T-left, T-right}
 use Rattle.operations.specs.Record.{recordFaults, lockFault}
 use Rattle.checks.specs.Check.{Answer, done, refused, Check, verdict, placed, rising}
 use Rattle.checks.specs.Checks.{rowFaultsAt, rowChecks, openChecks, runChecks}
+use Rattle.checks.specs.Model.{judged}
 use Rattle.checks.specs.Table.{Table, recordCount, recordOf}
+use Rattle.vector_calls.specs.Witnesses.{witnessChecks}
 
 -- no check of the list has the number 0
 abbrev numbered : List Check → Bool
@@ -53,3 +55,11 @@ module _ (t : Table) (first last : ℕ) where
 
   pub run-refused : (n i : ℕ) → verdict (runChecks t first last) last ≡ refused n i → 1 ≤ n
   run-refused n i e = refused-from (runChecks t first last) last n i run-numbered e
+
+module _ (kind w ma va mb vb k : ℕ) where
+  witness-numbered : T (numbered (witnessChecks kind w ma va mb vb k))
+  unfolding witnessChecks
+  witness-numbered = tt
+
+  pub witness-refused : (n i : ℕ) → judged (witnessChecks kind w ma va mb vb k) ≡ refused n i → 1 ≤ n
+  witness-refused n i e = refused-from (witnessChecks kind w ma va mb vb k) tt n i witness-numbered e

@@ -3,18 +3,23 @@
 --   numberAnswer      of run, size and write, whose result is one number;   countAnswer   of count;   countsAnswer   of read
 --   endsAnswer        of field: where the part begins and ends
 --   bitNumber b       an output bit as a number: 2 for X;   bitAnswer   of product_bit
+--   fourRefusal n p   a refusal of a call that gives four numbers: they are 0;   FourAnswers a r   r refuses as a does, or is done
+--   pairOf x y        two of them as operands
 --   Outcome L         an answer, and what the call leaves in the slices;   outcome r left   these of a host
 --   hostRan, hostWritten, hostRead   these of what run, write and read answer and leave
+use mathlib.Core.Path.{_≡_}
 use mathlib.Core.List.{List}
 use Prim.Native.Nat.{ℕ}
 use Rattle.vectors.specs.declared.OutputBit.{OutputBit}
 use Rattle.vectors.specs.declared.OutputBit.the-variants.{Zero, One, Unknown}
+use Rattle.witness_search.specs.declared.Pair.{Pair}
 use Rattle.checks.specs.Check.{Answer, done, refused}
 use Rattle.checks.specs.Table.{State, Table}
 use Rattle.tables.specs.Run.{Ran, Count}
 use Rattle.grammar.specs.Cut.{Ends}
 use Rattle.texts.specs.Calls.{Written, Counts, ReadBack}
 use Rattle.rifflerleek.specs.declared.Answer.{Answer as HostAnswer}
+use Rattle.rifflerleek.specs.declared.vector_exports.FourNumbers.{FourNumbers}
 
 abbrev pub hostResult : ℕ → ℕ → HostAnswer
 hostResult a b = record { refusal = 0; place = 0; result = a; «second_result» = b }
@@ -49,6 +54,19 @@ bitNumber Unknown = 2
 abbrev pub bitAnswer : Answer OutputBit → HostAnswer
 bitAnswer (done b) = hostResult (bitNumber b) 0
 bitAnswer (refused number place) = hostRefusal number place
+
+-- ---- four numbers
+
+abbrev pub fourRefusal : ℕ → ℕ → FourNumbers
+fourRefusal number place = record { refusal = number; place = place; first = 0; second = 0; third = 0; fourth = 0 }
+
+abbrev pub FourAnswers : Answer (Unit {0}) → FourNumbers → Type 0
+FourAnswers (done u) r = (r .refusal ≡ 0) × (r .place ≡ 0)
+FourAnswers (refused number place) r = r ≡ fourRefusal number place
+
+-- "pairs of covered operands" (02, request 7)
+abbrev pub pairOf : ℕ → ℕ → Pair
+pairOf x y = record { a = x; b = y }
 
 -- ---- with what is left in the slices
 

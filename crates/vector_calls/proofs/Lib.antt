@@ -1,2 +1,3 @@
 -- The laws and proofs of `vector_calls`.
 pub mod Granting
+pub mod Unsettled

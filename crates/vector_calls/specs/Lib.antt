@@ -1,3 +1,4 @@
 -- The definitions of `vector_calls`.
 pub mod Calls
+pub mod Witnesses
 pub mod Model

@@ -1,5 +1,6 @@
 -- An operand taken apart: where two vectors inside a row share its numbers between them, the join of the results for the two is the result. Assumes nothing.
---   best-place   that, of the operand at any place of the list and for any function
+--   chosen-place, apart-place   the choices with a row inside it in its place, and with either of two
+--   best-place   the join, of the operand at any place of the list and for any function
 use mathlib.Core.Path.{_≡_}
 use mathlib.Core.Logic.{_⊎_, inl, inr}
 use mathlib.Core.List.{List, [], _∷_, _++_}
@@ -15,13 +16,13 @@ use Rattle.vectors.proofs.Bests.{best-hull, best-of-hull, some-result}
 
 -- ---- choices
 
-chosen-place : (before after : List Row) (p q : Row) → Inside p q → (ns : List ℕ) → Chosen (before ++ p ∷ after) ns → Chosen (before ++ q ∷ after) ns
+pub chosen-place : (before after : List Row) (p q : Row) → Inside p q → (ns : List ℕ) → Chosen (before ++ p ∷ after) ns → Chosen (before ++ q ∷ after) ns
 chosen-place [] after p q i [] c = absurd c
 chosen-place [] after p q i (n ∷ ns) c = (i n (c .0), c .1)
 chosen-place (b ∷ bs) after p q i [] c = absurd c
 chosen-place (b ∷ bs) after p q i (n ∷ ns) c = (c .0, chosen-place bs after p q i ns (c .1))
 
-apart-place : (before after : List Row) (r p q : Row) → ((n : ℕ) → Covers r n → Covers p n ⊎ Covers q n)
+pub apart-place : (before after : List Row) (r p q : Row) → ((n : ℕ) → Covers r n → Covers p n ⊎ Covers q n)
     → (ns : List ℕ) → Chosen (before ++ r ∷ after) ns → Chosen (before ++ p ∷ after) ns ⊎ Chosen (before ++ q ∷ after) ns
 apart-place [] after r p q h [] c = absurd c
 apart-place [] after r p q h (n ∷ ns) c = elim (h n (c .0)) [ inl x ↦ inl (x, c .1) | inr x ↦ inr (x, c .1) ]

@@ -72,13 +72,13 @@ digit-zero true false e t = refl
 digit-zero false b e t = absurd t
 
 module _ (w : ℕ) (f : List ℕ → ℕ) (rows : List Row) where
-  may-elim : (b k : ℕ) → T (may f rows b k) → Gives f rows k b
+  pub may-elim : (b k : ℕ) → T (may f rows b k) → Gives f rows k b
   unfolding may
   may-elim b k t =
       let (ns, c, u) = someChoice-elim rows _ t in
       record { numbers = ns; chosen = c; gives = eqb→eq (bit (f ns) k) b u }
 
-  may-intro : (b k : ℕ) (ns : List ℕ) → Chosen rows ns → bit (f ns) k ≡ b → T (may f rows b k)
+  pub may-intro : (b k : ℕ) (ns : List ℕ) → Chosen rows ns → bit (f ns) k ≡ b → T (may f rows b k)
   unfolding may
   may-intro b k ns c e = someChoice-intro rows _ ns c (eq→eqb e)
 

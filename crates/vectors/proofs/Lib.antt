@@ -8,4 +8,5 @@ pub mod Joins
 pub mod Bests
 pub mod BestLaws
 pub mod Apart
+pub mod Narrowed
 pub mod Told

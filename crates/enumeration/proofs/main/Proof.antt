@@ -5,10 +5,10 @@ use Rattle.enumeration.proofs.main.Statement.{statement}
 use Rattle.enumeration.proofs.main.Tie as tie
 
 abbrev Inv-loop : tie.InvT-loop
-Inv-loop total₀ twice₀ kind₀ t7 t8 t9 t10 total twice kind = kind ≤ 32
+Inv-loop total₀ twice₀ kind₀ t8 t9 t10 t11 t12 total twice kind = kind ≤ 32
 
 abbrev μ-loop : tie.MeasureT-loop
-μ-loop total₀ twice₀ kind₀ t7 t8 t9 t10 total twice kind = 32 - kind
+μ-loop total₀ twice₀ kind₀ t8 t9 t10 t11 t12 total twice kind = 32 - kind
 
 pub main-spec : {M : Type 1} → statement M
 main-spec =
@@ -36,10 +36,19 @@ main-spec =
     (λ c κs. search needs)
     (λ c κs. search needs)
     (λ c κs. search needs)
+    (λ c κs. search needs)
+    (λ c κs. search needs)
+    (λ c κs. search needs)
+    (λ c κs. search needs)
+    (λ c. search needs)
+    (λ c κs. search needs)
+    (λ c κs. search needs)
+    (λ c κs. search needs)
     (λ c. search needs)
     (λ c κs. search needs)
     (λ c κs. search needs)
     (λ c. search needs)
+    (λ c κs. search needs)
     (λ c κs. search needs)
     (λ c κs. search needs)
     (λ c κs. search needs)

@@ -1,14 +1,14 @@
--- `enumeration::product_bits::each_second` is safe and ends. The pairs below n are tried, and n is at most their number. Assumes nothing.
+-- `enumeration::bare_vectors::each_second` is safe and ends. The pairs below n are tried, and n is at most their number. Assumes nothing.
 use Prim.Native.Nat.{_≤_, _-_}
 use borrow.Author.Needs.{needs}
-use Rattle.enumeration.proofs.product_bits.each_second.Statement.{statement}
-use Rattle.enumeration.proofs.product_bits.each_second.Tie as tie
+use Rattle.enumeration.proofs.bare_vectors.each_second.Statement.{statement}
+use Rattle.enumeration.proofs.bare_vectors.each_second.Tie as tie
 
 abbrev Inv-loop : tie.InvT-loop
-Inv-loop w a end tally₀ n₀ tally n = n ≤ end
+Inv-loop witnessed kind w a end tally₀ n₀ tally n = n ≤ end
 
 abbrev μ-loop : tie.MeasureT-loop
-μ-loop w a end tally₀ n₀ tally n = end - n
+μ-loop witnessed kind w a end tally₀ n₀ tally n = end - n
 
 pub each-second-spec : {M : Type 1} → statement M
 each-second-spec =

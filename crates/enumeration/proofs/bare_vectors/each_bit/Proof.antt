@@ -1,14 +1,14 @@
--- `enumeration::product_bits::each_bit` is safe and ends. The bits below k are tried, and k is at most the width. Assumes nothing.
+-- `enumeration::bare_vectors::each_bit` is safe and ends. The bits below k are tried, and k is at most the width. Assumes nothing.
 use Prim.Native.Nat.{_≤_, _-_}
 use borrow.Author.Needs.{needs}
-use Rattle.enumeration.proofs.product_bits.each_bit.Statement.{statement}
-use Rattle.enumeration.proofs.product_bits.each_bit.Tie as tie
+use Rattle.enumeration.proofs.bare_vectors.each_bit.Statement.{statement}
+use Rattle.enumeration.proofs.bare_vectors.each_bit.Tie as tie
 
 abbrev Inv-loop : tie.InvT-loop
-Inv-loop w a b right tally₀ k₀ tally k = k ≤ w
+Inv-loop witnessed kind w a b right tally₀ k₀ tally k = k ≤ w
 
 abbrev μ-loop : tie.MeasureT-loop
-μ-loop w a b right tally₀ k₀ tally k = w - k
+μ-loop witnessed kind w a b right tally₀ k₀ tally k = w - k
 
 pub each-bit-spec : {M : Type 1} → statement M
 each-bit-spec =
@@ -18,8 +18,6 @@ each-bit-spec =
     μ-loop
     (λ c κs. search needs)
     (λ c κs. search needs)
-    (λ c κs. search needs)
-    (λ c. search needs)
     (λ c κs. search needs)
     (λ c. search needs)
     (λ c κs. search needs)

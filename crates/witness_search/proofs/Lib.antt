@@ -1,0 +1,5 @@
+-- The laws and proofs of `witness_search`.
+pub mod Possible
+pub mod Cases
+pub mod Operations
+pub mod Search

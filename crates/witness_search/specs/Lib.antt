@@ -1,0 +1,3 @@
+-- The definitions of `witness_search`.
+pub mod Witness
+pub mod Search
