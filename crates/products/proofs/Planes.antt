@@ -1,5 +1,4 @@
 -- The two planes of a product. Assumes nothing.
---   mask-bit-of   an answer's mask bit is the vector's
 --   column-told   the bit of one column, from whether it is unknown and the values' product
 --   formed-of     the operands that the checks let pass
 --   planes-known  the planes of known operands' product
@@ -17,9 +16,8 @@ use Rattle.bits.specs.Bit.{bit}
 use Rattle.bits.proofs.Bits.{bit-lt, bit-cases, bit-and, bit-ext}
 use Rattle.bits.proofs.Constants.{bit-complement, bit-ones, bit-pow}
 use Rattle.bits.proofs.Shifts.{bit-mod}
-use Rattle.vectors.specs.declared.OutputBit.{OutputBit}
 use Rattle.vectors.specs.Row.{Row, row}
-use Rattle.vectors.specs.OutputBits.{outputBit, outputMask}
+use Rattle.vectors.specs.OutputBits.{outputBit}
 use Rattle.vectors.proofs.Told.{output-unknown, output-known}
 use Rattle.operations.specs.Arithmetic.{opMul}
 use Rattle.operations.specs.Result.{Ready}
@@ -27,18 +25,6 @@ use Rattle.columns.specs.Formed.{Formed}
 use Rattle.columns.specs.Settled.{productOf}
 use Rattle.columns.proofs.ProductMask.{product-formed, product-width, product-below, product-value}
 use Rattle.products.proofs.Unsettled.{known-operands}
-
-pub mask-bit-of : (r : Row) (k : ℕ) (b : OutputBit) (u : ℕ) → b ≡ outputBit r k → u ≡ outputMask b → u ≡ bit (r .mask) k
-mask-bit-of r k b u eb eu =
-    eu
-    ∙ ap outputMask eb
-    ∙ elim (bit-cases (r .mask) k) [
-      | inr e ↦ ap outputMask (output-unknown r k e) ∙ sym e
-      | inl e ↦ elim (bit-cases (r .value) k) [
-        | inl f ↦ ap outputMask (output-known r k 0 e f) ∙ sym e
-        | inr f ↦ ap outputMask (output-known r k 1 e f) ∙ sym e
-      ]
-    ]
 
 pub column-told : (w ma va mb vb k u p : ℕ) → Formed w ma va mb vb → k < w → u ≡ bitAnd (2 ^ k) (productOf w ma va mb vb .mask) → p ≡ va * vb % 2 ^ 32
     → outputBit (row w u p) k ≡ outputBit (productOf w ma va mb vb) k

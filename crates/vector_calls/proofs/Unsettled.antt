@@ -15,16 +15,15 @@ use Rattle.vectors.specs.declared.OutputBit.{OutputBit}
 use Rattle.vectors.specs.declared.OutputBit.the-variants.{Zero, One, Unknown}
 use Rattle.vectors.specs.OutputBits.{outputBit, outputMask}
 use Rattle.vectors.proofs.OutputBit as output-bit
+use Rattle.vectors.proofs.Told.{mask-bit-of}
 use Rattle.operations.specs.Kinds.{kindOf}
 use Rattle.operations.specs.Result.{resultOf}
-use Rattle.products.proofs.Planes.{mask-bit-of}
-use Rattle.witness_search.specs.declared.Operands.{Operands}
 use Rattle.witness_search.specs.Search.{mayBe, Asked, Sought}
 use Rattle.witness_search.proofs.Search.{possible-of}
 use Rattle.checks.specs.Check.{done, refused, Check, placed, Passed}
 use Rattle.checks.specs.Model.{judged}
 use Rattle.checks.proofs.Verdicts.{hits, clears, verdict-passed}
-use Rattle.vector_calls.specs.Witnesses.{bothRows, knownFaults, operationFaults, witnessChecks}
+use Rattle.vector_calls.specs.Witnesses.{bothRows, operationFaults, witnessChecks}
 
 -- after `let .. else` the other arm knows the tag alone
 pub not-unknown : (b : OutputBit) → OneOf (0 ∷ 1 ∷ []) (tagOf output-bit.the-type b) → outputMask b ≡ 0

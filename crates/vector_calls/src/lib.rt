@@ -79,8 +79,8 @@ fn check_operation(kind: u32, width: u32, ma: u32, va: u32, mb: u32, vb: u32, bi
 {
     let operands = check_operands(width, ma, va, mb, vb);
     let operation = check_kind(kind);
-    let number = check_bit(width, bit, 0);
-    first_refusal(operands, first_refusal(operation, number))
+    let bit_number = check_bit(width, bit, 0);
+    first_refusal(operands, first_refusal(operation, bit_number))
 }
 
 // Two pairs of operands, of which the first makes the bit 0 and the second 1, or a refusal.

@@ -9,7 +9,6 @@ use Prim.Native.Nat.{ℕ, zero, suc, _+_, _*_, _^_, _<_}
 use native.Mathlib.Nat.{zero-mul, one-mul, lt-of-lt-of-le}
 use native.Mathlib.Omega.{arith}
 use lib.Dec.{T, eqb, eqb→eq}
-use lib.Bits.{bitOr}
 use lib.Count.{trailingZeros}
 use lib.Pow.{pow-mono}
 use Rattle.bits.specs.Bit.{bit}
@@ -17,7 +16,6 @@ use Rattle.bits.proofs.Bits.{bit-cases, bit-or, bit-of-zero}
 use Rattle.bits.proofs.Bools.{eq→eqb}
 use Rattle.bits.proofs.Constants.{bit-pow, bit-pow-other}
 use Rattle.bits.proofs.LowestBit.{lowest, clear-at, clear-other, clear-less}
-use Rattle.bits.specs.Limits.{widthLimit}
 use Rattle.vectors.specs.Row.{Row, row, WellFormed, Covers, Inside}
 use Rattle.vectors.specs.Choice.{Chosen}
 use Rattle.vectors.proofs.Apart.{chosen-place, apart-place}

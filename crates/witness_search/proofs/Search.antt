@@ -8,7 +8,7 @@ use native.Mathlib.Omega.{arith}
 use lib.Dec.{T}
 use Rattle.bits.specs.Bit.{bit}
 use Rattle.vectors.specs.Lists.{All}
-use Rattle.vectors.specs.Row.{Row, WellFormed}
+use Rattle.vectors.specs.Row.{WellFormed}
 use Rattle.vectors.specs.Choice.{Chosen}
 use Rattle.vectors.specs.Best.{may}
 use Rattle.vectors.specs.OutputBits.{outputBit}

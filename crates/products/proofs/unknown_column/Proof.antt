@@ -6,8 +6,8 @@ use native.Mathlib.Omega.{arith}
 use Rattle.bits.specs.Bit.{bit}
 use Rattle.bits.proofs.Bits.{bit-lt}
 use Rattle.bits.proofs.Words.{shifted-bit}
+use Rattle.vectors.proofs.Told.{mask-bit-of}
 use Rattle.columns.specs.Settled.{productOf}
-use Rattle.products.proofs.Planes.{mask-bit-of}
 use Rattle.products.proofs.unknown_column.Statement.{statement}
 use Rattle.products.proofs.unknown_column.Tie as tie
 

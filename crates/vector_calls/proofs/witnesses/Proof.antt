@@ -1,12 +1,11 @@
 -- `vector_calls::witnesses` meets its contract: the checks, the bit, and a search for each value. Assumes nothing.
-use mathlib.Core.Path.{_≡_, refl, sym, ap, subst, _∙_}
-use mathlib.Core.List.{[], _∷_}
+use mathlib.Core.Path.{sym, ap, subst, _∙_}
 use Prim.Native.Nat.{ℕ, _<_}
 use native.Mathlib.Omega.{arith}
 use Rattle.witness_search.specs.declared.Pair.{Pair}
 use Rattle.witness_search.specs.declared.Operands.{Operands}
 use Rattle.witness_search.specs.Search.{Asked, Sought}
-use Rattle.checks.specs.Check.{Check, placed, Passed}
+use Rattle.checks.specs.Check.{placed, Passed}
 use Rattle.checks.specs.Model.{verdictModel}
 use Rattle.checks.proofs.Verdicts.{passed-of-done, done-same, not-done}
 use Rattle.checks.proofs.VerdictParts.{stops}

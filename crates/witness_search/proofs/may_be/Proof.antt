@@ -1,6 +1,5 @@
 -- `witness_search::may_be` meets its contract, case by case. Assumes nothing.
 use mathlib.Core.Path.{sym, ap}
-use Prim.Native.Nat.{ℕ}
 use Rattle.vectors.specs.declared.OutputBit.{OutputBit}
 use Rattle.witness_search.specs.Search.{mayBe}
 use borrow.Author.Needs.{needs}

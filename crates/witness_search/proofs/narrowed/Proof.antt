@@ -1,6 +1,5 @@
 -- `witness_search::narrowed` meets its contract: the first case where d is possible in it, else the second. Assumes nothing.
 use mathlib.Core.Path.{_≡_, sym, ap, subst, _∙_}
-use mathlib.Core.Bool.{Bool}
 use native.Mathlib.Omega.{arith}
 use Rattle.vectors.specs.declared.OutputBit.{OutputBit}
 use Rattle.vectors.specs.OutputBits.{outputBit}

@@ -1,9 +1,8 @@
 -- `witness_search::witness` meets its contract. What is sought stays sought of the operands at hand, whose choices are choices of the first ones; a turn
 -- makes the sum of their masks less. Assumes nothing.
-use mathlib.Core.Path.{_≡_, ap, ap₂, _∙_}
+use mathlib.Core.Path.{ap₂}
 use mathlib.Core.List.{List, [], _∷_}
 use Prim.Native.Nat.{ℕ, _+_}
-use native.Mathlib.Omega.{arith}
 use lib.Bits.{bitOr}
 use Rattle.bits.proofs.Words.{or-zero}
 use Rattle.vectors.specs.Choice.{Chosen}
