@@ -1,40 +1,7 @@
 // Rifflerleek in a Rust program: does an index that is partly unknown stay inside its array?
 //   rustc --edition 2021 -L target/staticlib examples/host.rs
 
-/// The calls and constants that this program needs, as include/rifflerleek.h has them: a slice is a pointer and a length.
-mod host {
-    pub const ROW_LIMIT: usize = 256;
-    pub const RECORD_LIMIT: usize = 1024;
-    pub const RECORD_WORDS: usize = 5;
-    pub const DONE: u32 = 0;
-    pub const UNKNOWN_BIT: usize = 2;
-    pub const KIND_ADD: u32 = 13;
-
-    #[repr(C)]
-    pub struct Answer {
-        pub refusal: u32,
-        pub place: usize,
-        pub result: usize,
-        pub second_result: u64,
-    }
-
-    #[rustfmt::skip]
-    #[repr(C)]
-    pub struct FourNumbers { pub refusal: u32, pub place: usize, pub first: u32, pub second: u32, pub third: u32, pub fourth: u32 }
-
-    #[rustfmt::skip]
-    #[link(name = "rifflerleek", kind = "static")]
-    extern "C" {
-        pub fn rifflerleek_run(width: *const u8, widths: usize, lock: *const u8, locks: usize, mask: *mut u32, masks: usize, value: *mut u32, values: usize, words: *const u32, word_count: usize, first: usize, last: usize) -> Answer;
-        pub fn rifflerleek_count(width: *const u8, widths: usize, lock: *const u8, locks: usize, mask: *const u32, masks: usize, value: *const u32, values: usize, row: usize) -> Answer;
-        pub fn rifflerleek_size(width: *const u8, widths: usize, lock: *const u8, locks: usize, mask: *const u32, masks: usize, value: *const u32, values: usize, words: *const u32, word_count: usize) -> Answer;
-        pub fn rifflerleek_write(width: *const u8, widths: usize, lock: *const u8, locks: usize, mask: *const u32, masks: usize, value: *const u32, values: usize, words: *const u32, word_count: usize, out: *mut u8, out_length: usize) -> Answer;
-        pub fn rifflerleek_read(text: *const u8, text_length: usize, width: *mut u8, widths: usize, lock: *mut u8, locks: usize, mask: *mut u32, masks: usize, value: *mut u32, values: usize, words: *mut u32, word_count: usize) -> Answer;
-        pub fn rifflerleek_field(text: *const u8, text_length: usize, line: usize, field: usize) -> Answer;
-        pub fn rifflerleek_product_bit(width: u32, mask_a: u32, value_a: u32, mask_b: u32, value_b: u32, bit: u32) -> Answer;
-        pub fn rifflerleek_witnesses(kind: u32, width: u32, mask_a: u32, value_a: u32, mask_b: u32, value_b: u32, bit: u32) -> FourNumbers;
-    }
-}
+mod rifflerleek; // rifflerleek.rs: the calls and constants
 
 struct Refusal {
     number: u32,
@@ -43,10 +10,10 @@ struct Refusal {
 
 // Every call answers, on every input: there is nothing to catch.
 fn given<T>(refusal: u32, place: usize, what: T) -> Result<T, Refusal> {
-    if refusal == host::DONE { Ok(what) } else { Err(Refusal { number: refusal, place }) }
+    if refusal == rifflerleek::DONE { Ok(what) } else { Err(Refusal { number: refusal, place }) }
 }
 
-fn result(a: host::Answer) -> Result<(usize, u64), Refusal> {
+fn result(a: rifflerleek::Answer) -> Result<(usize, u64), Refusal> {
     given(a.refusal, a.place, (a.result, a.second_result))
 }
 
@@ -62,7 +29,7 @@ struct Table {
 macro_rules! call {
     ($name:ident, $t:expr, $($more:expr),*) => {
         result(unsafe {
-            host::$name(
+            rifflerleek::$name(
                 $t.width.as_ptr(), $t.width.len(), $t.lock.as_ptr(), $t.lock.len(),
                 $t.mask.as_mut_ptr(), $t.mask.len(), $t.value.as_mut_ptr(), $t.value.len(), $($more),*
             )
@@ -72,10 +39,10 @@ macro_rules! call {
 
 impl Table {
     fn read(text: &[u8]) -> Result<Table, Refusal> {
-        let (most, words) = (host::ROW_LIMIT, host::RECORD_WORDS * host::RECORD_LIMIT);
+        let (most, words) = (rifflerleek::ROW_LIMIT, rifflerleek::RECORD_WORDS * rifflerleek::RECORD_LIMIT);
         let mut t = Table { width: vec![0; most], lock: vec![0; most], mask: vec![0; most], value: vec![0; most], words: vec![0; words] };
         let (rows, records) = result(unsafe {
-            host::rifflerleek_read(
+            rifflerleek::rifflerleek_read(
                 text.as_ptr(), text.len(), t.width.as_mut_ptr(), most, t.lock.as_mut_ptr(), most,
                 t.mask.as_mut_ptr(), most, t.value.as_mut_ptr(), most, t.words.as_mut_ptr(), words,
             )
@@ -84,14 +51,14 @@ impl Table {
         t.lock.truncate(rows);
         t.mask.truncate(rows);
         t.value.truncate(rows);
-        t.words.truncate(host::RECORD_WORDS * records as usize);
+        t.words.truncate(rifflerleek::RECORD_WORDS * records as usize);
         Ok(t)
     }
 
     // All records; a refusal leaves the rows as they were.
     fn run(&mut self) -> Result<usize, Refusal> {
         let (words, length) = (self.words.as_ptr(), self.words.len());
-        Ok(call!(rifflerleek_run, self, words, length, 0, length / host::RECORD_WORDS)?.0)
+        Ok(call!(rifflerleek_run, self, words, length, 0, length / rifflerleek::RECORD_WORDS)?.0)
     }
 
     fn count(&mut self, row: usize) -> Result<(usize, u64), Refusal> {
@@ -108,7 +75,7 @@ impl Table {
 
 /// The field itself, as a part of the text.
 fn field(text: &str, line: usize, field: usize) -> &str {
-    let a = unsafe { host::rifflerleek_field(text.as_ptr(), text.len(), line, field) };
+    let a = unsafe { rifflerleek::rifflerleek_field(text.as_ptr(), text.len(), line, field) };
     &text[a.result..a.second_result as usize]
 }
 
@@ -121,15 +88,15 @@ struct Bare {
 /// The bits of a product, as letters, the highest first.
 fn product(width: u32, a: &Bare, b: &Bare) -> Result<String, Refusal> {
     let letter = |bit| {
-        let (number, _) = result(unsafe { host::rifflerleek_product_bit(width, a.mask, a.value, b.mask, b.value, bit) })?;
-        Ok(if number == host::UNKNOWN_BIT { 'X' } else if number == 1 { '1' } else { '0' })
+        let (number, _) = result(unsafe { rifflerleek::rifflerleek_product_bit(width, a.mask, a.value, b.mask, b.value, bit) })?;
+        Ok(if number == rifflerleek::UNKNOWN_BIT { 'X' } else if number == 1 { '1' } else { '0' })
     };
     (0..width).rev().map(letter).collect()
 }
 
 /// Two pairs of numbers: the first pair's sum has 0 at the bit, the second's has 1.
 fn explain(width: u32, a: &Bare, b: &Bare, bit: u32) -> Result<[(u32, u32); 2], Refusal> {
-    let n = unsafe { host::rifflerleek_witnesses(host::KIND_ADD, width, a.mask, a.value, b.mask, b.value, bit) };
+    let n = unsafe { rifflerleek::rifflerleek_witnesses(rifflerleek::KIND_ADD, width, a.mask, a.value, b.mask, b.value, bit) };
     given(n.refusal, n.place, [(n.first, n.second), (n.third, n.fourth)])
 }
 
@@ -158,7 +125,7 @@ fn evaluate() -> Result<(), Refusal> {
     t.mask[0] = 0xff;
     t.value[0] = 0;
     run_and_print(&mut t, 4)?; // row 4 is X: some stay inside, some do not
-    t.words[host::RECORD_WORDS + 1] = 1; // add, into the locked row 1
+    t.words[rifflerleek::RECORD_WORDS + 1] = 1; // add, into the locked row 1
     run_and_print(&mut t, 4)
 }
 
