@@ -43,7 +43,7 @@ template <uint32_t kind> rifflerleek_four_numbers ask(const Question &q)
     return rifflerleek_witnesses(kind, WIDTH, q.a.mask, q.a.value, q.b.mask, q.b.value, q.bit);
 }
 
-// So many questions of unknown bits, where rare is true of those that have a rare value. Draw gives a vector. Fails if the library has a
+// So many questions of unknown bits; where rare is true, only such as have a rare value. Draw gives a vector. Fails if the library has a
 // bit as known of which search shows both values.
 template <uint32_t kind, class Draw> Questions draw_questions(std::size_t count, bool rare, Draw draw)
 {

@@ -101,11 +101,11 @@ void call_witnesses(void)
     rifflerleek_four_numbers n;
     uint32_t refusal;
     int exact;
-    do { // the choices may not settle that the bit is known: draw another
+    do { // the choices may not settle that the bit is known: draw another, unless two terms of two unknown bits make it X
         draw_operands(&o);
         refusal = ref_witnesses(&o, LIMIT, &exact);
         n = library_witnesses(&o);
-    } while (!exact && n.refusal == RIFFLERLEEK_REFUSED_KNOWN);
+    } while (!exact && n.refusal == RIFFLERLEEK_REFUSED_KNOWN && unknown_terms(&o) < 2);
     judge(&o, n, refusal);
     seen[WITNESSES][refusal]++;
     unsettled += !exact;

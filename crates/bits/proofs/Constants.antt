@@ -1,11 +1,12 @@
--- The bits of a complement, of a width's mask and of a power of 2, for every width. Assumes nothing.
+-- The bits of a complement, of a width's mask, of a power of 2 and of a bit at a place, for every width. Assumes nothing.
 --   bit-complement                        2 ^ w - 1 - a
 --   bit-ones, bit-ones-above, ones-shr    2 ^ w - 1
 --   bit-pow, bit-pow-other                2 ^ j
+--   bit-placed, bit-placed-other          a bit at place j
 use mathlib.Core.Path.{_≡_, sym, ap, _∙_}
 use mathlib.Core.Logic.{_≢_}
 use Prim.Native.Nat.{ℕ, zero, suc, _+_, _-_, _*_, _/_, _%_, _^_, _≤_, _<_}
-use native.Mathlib.Nat.{sub-zero, div-self, one-mul, pow-suc, le-of-suc-le-suc, not-suc-le-zero, lt-suc-self}
+use native.Mathlib.Nat.{sub-zero, div-self, zero-mul, one-mul, pow-suc, le-of-suc-le-suc, not-suc-le-zero, lt-suc-self}
 use native.Mathlib.Decide.{decLt}
 use native.Mathlib.Omega.{arith}
 use lib.Pow.{pow-pos, pow-lt, ones-lt, ones-split, high}
@@ -56,3 +57,13 @@ bit-pow-other j k d =
       | yes l ↦ ap (λ (x : ℕ). bit x k) (sym (one-mul (2 ^ j))) ∙ bit-mul-low 1 j k l
       | no l ↦ bit-above (suc j) (2 ^ j) k (pow-lt (lt-suc-self j)) (omega arith)
     ]
+
+pub bit-placed : (b j : ℕ) → b < 2 → bit (b * 2 ^ j) j ≡ b
+bit-placed zero j h = ap (λ (n : ℕ). bit n j) (zero-mul (2 ^ j)) ∙ bit-of-zero j
+bit-placed (suc zero) j h = ap (λ (n : ℕ). bit n j) (one-mul (2 ^ j)) ∙ bit-pow j
+bit-placed (suc (suc b)) j h = absurd (omega arith)
+
+pub bit-placed-other : (b j k : ℕ) → b < 2 → k ≢ j → bit (b * 2 ^ j) k ≡ 0
+bit-placed-other zero j k h d = ap (λ (n : ℕ). bit n k) (zero-mul (2 ^ j)) ∙ bit-of-zero k
+bit-placed-other (suc zero) j k h d = ap (λ (n : ℕ). bit n k) (one-mul (2 ^ j)) ∙ bit-pow-other j k d
+bit-placed-other (suc (suc b)) j k h d = absurd (omega arith)

@@ -1,4 +1,4 @@
--- The operands of a product (01, "Products": "well-formed vectors of one width").
+-- Two operands (01, "Products": "well-formed vectors of one width").
 --   Formed w ma va mb vb   both are well-formed vectors of width w, at most widthLimit
 use Prim.Native.Nat.{ℕ, _≤_}
 use Rattle.bits.specs.Limits.{widthLimit}

@@ -7,15 +7,15 @@
 --   known-operands          no column is unknown if no bit of an operand is
 use mathlib.Core.Path.{_≡_, sym, ap, ap₂, _∙_}
 use mathlib.Core.Logic.{_≢_, inl, inr}
-use Prim.Native.Nat.{ℕ, zero, suc, _-_, _*_, _^_, _≤_, _<_, min, max}
-use native.Mathlib.Nat.{one-mul, le-refl}
+use Prim.Native.Nat.{ℕ, _-_, _*_, _^_, _≤_, _<_, min, max}
+use native.Mathlib.Nat.{le-refl}
 use native.Mathlib.Decide.{decLt, ℕ-discrete}
 use native.Mathlib.Omega.{arith}
 use lib.Bits.{bitAnd, bitOr, or-lt, and-le-l, and-lt}
 use lib.Count.{trailingZeros}
 use Rattle.bits.specs.Bit.{bit}
 use Rattle.bits.proofs.Bits.{bit-lt, bit-cases, bit-and, bit-or, bit-above, bit-ext, bit-of-zero}
-use Rattle.bits.proofs.Constants.{bit-pow, bit-pow-other, bit-ones, bit-complement}
+use Rattle.bits.proofs.Constants.{bit-placed, bit-placed-other, bit-ones, bit-complement}
 use Rattle.bits.proofs.Numbers.{below-of-bits}
 use Rattle.bits.proofs.Words.{bit-clear, or-zero}
 use Rattle.bits.proofs.LowestBit.{lowest, clear-at, clear-other}
@@ -26,18 +26,6 @@ use Rattle.columns.specs.Settled.{productOf, Marks, AllUnknown, AllKnown, Settl
 use Rattle.columns.proofs.ProductMask.{product-steady}
 use Rattle.columns.proofs.Parts.{Part}
 use Rattle.products.specs.Granted.{Granted}
-
--- ---- one column of a word
-
-column-at : (s k : ℕ) → s < 2 → bit (s * 2 ^ k) k ≡ s
-column-at zero k h = let e : 0 * 2 ^ k ≡ 0 = omega arith in ap (λ (n : ℕ). bit n k) e ∙ bit-of-zero k
-column-at (suc zero) k h = ap (λ (n : ℕ). bit n k) (one-mul (2 ^ k)) ∙ bit-pow k
-column-at (suc (suc s)) k h = absurd (omega arith)
-
-column-other : (s k j : ℕ) → s < 2 → j ≢ k → bit (s * 2 ^ k) j ≡ 0
-column-other zero k j h d = let e : 0 * 2 ^ k ≡ 0 = omega arith in ap (λ (n : ℕ). bit n j) e ∙ bit-of-zero j
-column-other (suc zero) k j h d = ap (λ (n : ℕ). bit n j) (one-mul (2 ^ k)) ∙ bit-pow-other k j d
-column-other (suc (suc s)) k j h d = absurd (omega arith)
 
 -- ---- the columns that are worked out
 
@@ -58,7 +46,7 @@ worked-next v m u found rest d n l e p W j = bit-or found d j ∙ elim (ℕ-disc
     at j f =
         let a : bit d j ≡ bit m j =
         ap (λ (x : ℕ). bit x j) e ∙ ap (bit (bit m (trailingZeros v rest) * 2 ^ trailingZeros v rest)) f
-        ∙ column-at (bit m (trailingZeros v rest)) (trailingZeros v rest) (bit-lt m (trailingZeros v rest))
+        ∙ bit-placed (bit m (trailingZeros v rest)) (trailingZeros v rest) (bit-lt m (trailingZeros v rest))
         ∙ ap (bit m) (sym f) in
         let b = ap (bit rest) f ∙ lowest v rest n l .1 in
         let c = ap (bit (bitAnd rest (rest - 1))) f ∙ clear-at v rest n l in
@@ -70,7 +58,7 @@ worked-next v m u found rest d n l e p W j = bit-or found d j ∙ elim (ℕ-disc
 
     other : (j : ℕ) → j ≢ trailingZeros v rest → max (bit found j) (bit d j) ≡ min (bit u j - bit (bitAnd rest (rest - 1)) j) (bit m j)
     other j f =
-        let a : bit d j ≡ 0 = ap (λ (x : ℕ). bit x j) e ∙ column-other (bit m (trailingZeros v rest)) (trailingZeros v rest) j (bit-lt m (trailingZeros v rest)) f in
+        let a : bit d j ≡ 0 = ap (λ (x : ℕ). bit x j) e ∙ bit-placed-other (bit m (trailingZeros v rest)) (trailingZeros v rest) j (bit-lt m (trailingZeros v rest)) f in
         let c = clear-other v rest n l j f in
         let h = W j in
         omega arith

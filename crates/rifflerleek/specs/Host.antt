@@ -1,4 +1,4 @@
--- What a host program is handed: the paper's answer as one struct, and what the call leaves (01, "Calls": "the result, or a refusal holding its number and its place").
+-- What a host program is handed: the paper's answer as a struct, of two numbers or of four, and what the call leaves (01, "Calls": "the result, or a refusal holding its number and its place").
 --   hostResult a b      a result of two numbers: refusal 0;   hostRefusal n p   a refusal: its number and its place
 --   numberAnswer      of run, size and write, whose result is one number;   countAnswer   of count;   countsAnswer   of read
 --   endsAnswer        of field: where the part begins and ends

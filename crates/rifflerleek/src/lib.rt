@@ -21,7 +21,7 @@ use texts::ReadAnswer;
 
 mod vector_exports; // vector_exports.rt: the calls on bare vectors
 
-// What every call answers: refusal 0 and up to two results, or the refusal's number and its place.
+// What a call answers that gives at most two numbers: refusal 0 and the results, or the refusal's number and its place.
 #[repr(C)]
 pub struct Answer {
     pub refusal: u32,

@@ -1,7 +1,7 @@
 -- What the checks of the calls on bare vectors give, once they passed. Assumes nothing.
 --   operands-of-passed   well-formed vectors of one width;   bit-of-passed   a bit below it
 --   granted              what the routine under product_bit takes for granted
---   asked                what the bit of an operation is asked of
+--   asked                what operation_bit takes for granted
 use mathlib.Core.List.{_++_}
 use Prim.Native.Nat.{ℕ, _<_}
 use lib.Dec.{nleb→lt}

@@ -23,7 +23,8 @@ use Rattle.witness_search.proofs.Search.{possible-of}
 use Rattle.checks.specs.Check.{done, refused, Check, placed, Passed}
 use Rattle.checks.specs.Model.{judged}
 use Rattle.checks.proofs.Verdicts.{hits, clears, verdict-passed}
-use Rattle.vector_calls.specs.Witnesses.{bothRows, operationFaults, witnessChecks}
+use Rattle.vector_calls.specs.Calls.{bothRows}
+use Rattle.vector_calls.specs.Witnesses.{operationFaults, witnessChecks}
 
 -- after `let .. else` the other arm knows the tag alone
 pub not-unknown : (b : OutputBit) → OneOf (0 ∷ 1 ∷ []) (tagOf output-bit.the-type b) → outputMask b ≡ 0

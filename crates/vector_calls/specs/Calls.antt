@@ -1,10 +1,11 @@
--- What the calls on bare vectors refuse and answer (02, request 6). A bare vector is 02's term for a vector that stands in no table.
+-- What product_bit refuses and answers, and the checks of two bare vectors (02, request 6). A bare vector is 02's term for a vector that stands in no table.
+--   bothRows w ma va mb vb             the two vectors as rows of one width
 --   operandFaults w ma va mb vb        4 of the width, 5 of either vector of that width
 --   productBitChecks w ma va mb vb k   what product_bit refuses, in order
 --   productBitOf w ma va mb vb k       what it answers
 use mathlib.Core.List.{List, [], _∷_, _++_}
 use Prim.Native.Nat.{ℕ}
-use Rattle.vectors.specs.Row.{row}
+use Rattle.vectors.specs.Row.{Row, row}
 use Rattle.vectors.specs.declared.OutputBit.{OutputBit}
 use Rattle.vectors.specs.OutputBits.{outputBit}
 use Rattle.operations.specs.Record.{Fault}
@@ -12,6 +13,10 @@ use Rattle.operations.specs.Arithmetic.{opMul}
 use Rattle.operations.specs.Result.{resultOf}
 use Rattle.checks.specs.Check.{Answer, Check, verdict, placed}
 use Rattle.checks.specs.Checks.{widthFaults, vectorFaults, bitFaults}
+
+-- "well-formed vectors of one width" (01, "Products")
+abbrev pub bothRows : ℕ → ℕ → ℕ → ℕ → ℕ → List Row
+bothRows w ma va mb vb = row w ma va ∷ row w mb vb ∷ []
 
 -- "It checks what it took for granted, width as 4 and vectors as 5."
 abbrev pub operandFaults : ℕ → ℕ → ℕ → ℕ → ℕ → List Fault
@@ -23,4 +28,4 @@ productBitChecks w ma va mb vb k = placed 0 (operandFaults w ma va mb vb ++ bitF
 
 -- "a single product bit": that bit of the best result of mul over the two vectors, each operand chosen independently (01, "Abstract result")
 unfoldable pub productBitOf : ℕ → ℕ → ℕ → ℕ → ℕ → ℕ → Answer OutputBit
-productBitOf w ma va mb vb k = verdict (productBitChecks w ma va mb vb k) (outputBit (resultOf opMul w 0 (row w ma va ∷ row w mb vb ∷ [])) k)
+productBitOf w ma va mb vb k = verdict (productBitChecks w ma va mb vb k) (outputBit (resultOf opMul w 0 (bothRows w ma va mb vb)) k)

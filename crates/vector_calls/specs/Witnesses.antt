@@ -1,5 +1,4 @@
 -- Two inputs that make a bit unsettled (02, request 7): what witnesses refuses, and what holds of the pairs that it answers. Which such pairs is left open.
---   bothRows w ma va mb vb             the two vectors as rows
 --   otherKind kind, bitKnown kind w ma va mb vb k   the conditions of 6 and of 16;   kindFaults, knownFaults   these as lists
 --   operationFaults kind w ma va mb vb k   4, 5, 6 and 15
 --   witnessChecks kind w ma va mb vb k     what witnesses refuses, in order
@@ -8,7 +7,6 @@ use mathlib.Core.Bool.{Bool, not}
 use mathlib.Core.List.{List, [], _∷_, _++_}
 use Prim.Native.Nat.{ℕ}
 use Rattle.bits.specs.Bit.{isSet}
-use Rattle.vectors.specs.Row.{Row, row}
 use Rattle.operations.specs.Kinds.{kindOf}
 use Rattle.operations.specs.Record.{Fault, fault}
 use Rattle.operations.specs.Result.{resultOf}
@@ -16,11 +14,7 @@ use Rattle.witness_search.specs.declared.Pair.{Pair}
 use Rattle.witness_search.specs.Witness.{addSubMul, plainOf, Makes}
 use Rattle.checks.specs.Check.{Check, placed}
 use Rattle.checks.specs.Checks.{bitFaults}
-use Rattle.vector_calls.specs.Calls.{operandFaults}
-
--- "two vectors of one width"
-abbrev pub bothRows : ℕ → ℕ → ℕ → ℕ → ℕ → List Row
-bothRows w ma va mb vb = row w ma va ∷ row w mb vb ∷ []
+use Rattle.vector_calls.specs.Calls.{bothRows, operandFaults}
 
 -- "6 (any other kind)"
 abbrev pub otherKind : ℕ → Bool

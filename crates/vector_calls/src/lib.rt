@@ -63,7 +63,7 @@ pub fn product_bit(width: u32, ma: u32, va: u32, mb: u32, vb: u32, bit: u32) -> 
     }
 }
 
-// Check 6 of a kind of which witnesses are given: every other is refused.
+// Check 6: a kind other than add, sub and mul.
 fn check_kind(kind: u32) -> Verdict
     ensures { λ r. ⌜ verdictModel r ≡ judged (placed 0 (kindFaults kind)) ⌝ }
 {

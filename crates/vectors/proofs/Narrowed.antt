@@ -1,15 +1,16 @@
 -- A row with one of its unknown bits known: it covers what the row covers and has that bit. Assumes nothing.
 --   Narrows r i b q                 q is the row r with its unknown bit i known as b
 --   narrowed-formed, narrowed-covers   it is well formed; what it covers
+--   narrowed-inside, narrowed-apart    it lies inside; with the bit known as 0 and as 1, the two cover all that the row covers
 use mathlib.Core.Path.{_≡_, sym, ap, subst, _∙_}
-use mathlib.Core.Logic.{_≢_, _↔_}
+use mathlib.Core.Logic.{_≢_, _⊎_, _↔_, inl, inr}
 use Prim.Native.Nat.{ℕ, _^_, _<_}
 use native.Mathlib.Decide.{decLt, ℕ-discrete}
 use native.Mathlib.Omega.{arith}
 use Rattle.bits.specs.Bit.{bit}
-use Rattle.bits.proofs.Bits.{bit-above}
+use Rattle.bits.proofs.Bits.{bit-above, bit-cases}
 use Rattle.bits.proofs.Numbers.{below-of-bits}
-use Rattle.vectors.specs.Row.{Row, WellFormed, Covers}
+use Rattle.vectors.specs.Row.{Row, WellFormed, Covers, Inside}
 
 pub record Narrows (r : Row) (i b : ℕ) (q : Row) : Type 0 where
   pub width-is : q .width ≡ r .width
@@ -64,3 +65,10 @@ module _ (r : Row) (i b : ℕ) (q : Row) (F : WellFormed r) (N : Narrows r i b q
       ];
     }),
   )
+
+  pub narrowed-inside : Inside q r
+  narrowed-inside n c = narrowed-covers n .0 c .0
+
+pub narrowed-apart : (r : Row) (i : ℕ) (p q : Row) → WellFormed r → Narrows r i 0 p → Narrows r i 1 q → (n : ℕ) → Covers r n → Covers p n ⊎ Covers q n
+narrowed-apart r i p q F P Q n c =
+    elim (bit-cases n i) [ inl e ↦ inl (narrowed-covers r i 0 p F P n .1 (c, e)) | inr e ↦ inr (narrowed-covers r i 1 q F Q n .1 (c, e)) ]

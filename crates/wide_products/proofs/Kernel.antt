@@ -11,18 +11,18 @@ use mathlib.Core.List.{List, [], _∷_}
 use Prim.Native.Nat.{ℕ, _+_, _-_, _*_, _%_, _^_, _≤_, _<_}
 use native.Mathlib.Nat.{le-trans, one-mul}
 use native.Mathlib.Omega.{arith}
-use lib.Dec.{T, eqb, eqb→eq, eqb-refl}
+use lib.Dec.{T, eqb→eq}
 use lib.Bits.{bitAnd, bitOr, bitXor, or-lt, or-shifted-r, xor-self}
 use lib.Pow.{pow-lt}
 use Rattle.bits.specs.Bit.{bit}
 use Rattle.bits.proofs.Bits.{bit-of-zero}
-use Rattle.bits.proofs.Bools.{T-and}
 use Rattle.vectors.specs.Row.{Row, row, WellFormed}
 use Rattle.vectors.specs.Hull.{join}
 use Rattle.logic.proofs.Planes.{turned-top}
 use Rattle.operations.specs.Arithmetic.{opMul}
 use Rattle.operations.specs.Wide.{countedAs, wideKind}
 use Rattle.operations.specs.Result.{Ready}
+use Rattle.operations.proofs.TwoRows.{two-ready}
 use Rattle.wide_products.specs.Apart.{Factor, Operand, signUnknown, signAs, extendedRow, bySign, byOperand}
 use Rattle.wide_products.proofs.Extensions.{extended-formed}
 use Rattle.wide_products.proofs.SignCases.{sign-is-unknown, value-room, signAs-factor}
@@ -53,8 +53,7 @@ same-result {wt} e f O g = ap (λ (k : ℕ). bySign (O .signed) (row (O .width) 
 
 pub mul-ready : (wt m x n y : ℕ) → 1 ≤ wt → WellFormed (row wt m x) → WellFormed (row wt n y) → Ready opMul wt 0 (row wt m x ∷ row wt n y ∷ [])
 unfolding opMul
-mul-ready wt m x n y l F G =
-    record { count = refl; formed = (F, (G, tt)); wide = l; widths = (l, (l, tt)); fits = T-and (eqb wt wt) (eqb wt wt) (eqb-refl wt) (eqb-refl wt); parameter = tt }
+mul-ready = two-ready opMul refl refl refl
 
 pub sign-none : (signed : Bool) (r : Row) → r .mask ≡ 0 → T (signUnknown signed r) → ⊥
 sign-none signed r e u = let b = sign-is-unknown signed r u in let z = ap (λ (m : ℕ). bit m (r .width - 1)) e ∙ bit-of-zero (r .width - 1) in omega arith

@@ -65,7 +65,7 @@ by-sign signed wt w h before after f r F E G = go (signUnknown signed r) (λ t. 
         let B = signAs-factor signed wt r F t 1 (omega arith) in
         ap₂ join (G _ _ A (signAs-known signed 0 r)) (G _ _ B (signAs-known signed 1 r))
         ∙ best-place w h before after r (signAs 0 r) (signAs 1 r) (E r (F .formed)) (E (signAs 0 r) (A .formed)) (E (signAs 1 r) (B .formed))
-        (signAs-inside r (F .formed) (F .least) e 0) (signAs-inside r (F .formed) (F .least) e 1) (signAs-apart r (F .formed) (F .least) e)
+        (signAs-inside r (F .formed) (F .least) e 0 (omega arith)) (signAs-inside r (F .formed) (F .least) e 1 (omega arith)) (signAs-apart r (F .formed) (F .least) e)
 
     go : (b : Bool) → (T b → T (signUnknown signed r)) → (T (signUnknown signed r) → T b) → cond b (join (f (signAs 0 r)) (f (signAs 1 r))) (f r) ≡ best w h (before ++ r ∷ after)
     go true t u = apart (t tt)

@@ -1,41 +1,29 @@
 -- The two cases of the operands: their vectors are well formed, and their choices are together those of the operands. Assumes nothing.
---   Halves w o c   c 0 and c 1 are two such cases of o, each with fewer unknown bits
+--   Halves w o c   c 0 and c 1 are two such cases of o, each with a smaller sum of masks
 --   halves         those that caseOf gives
-use mathlib.Core.Path.{_≡_, refl, ap, _∙_}
+use mathlib.Core.Path.{_≡_, refl}
 use mathlib.Core.Bool.{Bool, true, false, cond}
-use mathlib.Core.Logic.{_≢_, _⊎_, inl, inr}
+use mathlib.Core.Logic.{_≢_, _⊎_}
 use mathlib.Core.List.{List, [], _∷_}
-use Prim.Native.Nat.{ℕ, zero, suc, _+_, _*_, _^_, _<_}
-use native.Mathlib.Nat.{zero-mul, one-mul, lt-of-lt-of-le}
+use Prim.Native.Nat.{ℕ, _+_, _*_, _^_, _<_}
+use native.Mathlib.Nat.{lt-of-lt-of-le}
 use native.Mathlib.Omega.{arith}
 use lib.Dec.{T, eqb, eqb→eq}
 use lib.Count.{trailingZeros}
 use lib.Pow.{pow-mono}
-use Rattle.bits.specs.Bit.{bit}
-use Rattle.bits.proofs.Bits.{bit-cases, bit-or, bit-of-zero}
+use Rattle.bits.proofs.Bits.{bit-or}
 use Rattle.bits.proofs.Bools.{eq→eqb}
-use Rattle.bits.proofs.Constants.{bit-pow, bit-pow-other}
+use Rattle.bits.proofs.Constants.{bit-placed, bit-placed-other}
 use Rattle.bits.proofs.LowestBit.{lowest, clear-at, clear-other, clear-less}
 use Rattle.vectors.specs.Row.{Row, row, WellFormed, Covers, Inside}
 use Rattle.vectors.specs.Choice.{Chosen}
 use Rattle.vectors.proofs.Apart.{chosen-place, apart-place}
-use Rattle.vectors.proofs.Narrowed.{Narrows, narrowed-formed, narrowed-covers}
+use Rattle.vectors.proofs.Narrowed.{Narrows, narrowed-formed, narrowed-inside, narrowed-apart}
 use Rattle.columns.specs.Formed.{Formed}
 use Rattle.witness_search.specs.declared.Operands.{Operands}
 use Rattle.witness_search.specs.Search.{rowsOf, lowestCleared, lowestAs, caseOf, UnknownLeft}
 
 -- ---- a vector
-
--- the number whose bit i is b, and which has no other
-shifted-at : (i b : ℕ) → b < 2 → bit (b * 2 ^ i) i ≡ b
-shifted-at i zero h = ap (λ (x : ℕ). bit x i) (zero-mul (2 ^ i)) ∙ bit-of-zero i
-shifted-at i (suc zero) h = ap (λ (x : ℕ). bit x i) (one-mul (2 ^ i)) ∙ bit-pow i
-shifted-at i (suc (suc b)) h = absurd (omega arith)
-
-shifted-other : (i k b : ℕ) → b < 2 → k ≢ i → bit (b * 2 ^ i) k ≡ 0
-shifted-other i k zero h d = ap (λ (x : ℕ). bit x k) (zero-mul (2 ^ i)) ∙ bit-of-zero k
-shifted-other i k (suc zero) h d = ap (λ (x : ℕ). bit x k) (one-mul (2 ^ i)) ∙ bit-pow-other i k d
-shifted-other i k (suc (suc b)) h d = absurd (omega arith)
 
 module _ (w m v : ℕ) (l : m < 2 ^ 32) (F : WellFormed (row w m v)) (n : m ≢ 0) where
   abbrev place : ℕ
@@ -53,21 +41,18 @@ module _ (w m v : ℕ) (l : m < 2 ^ 32) (F : WellFormed (row w m v)) (n : m ≢ 
         unknown = u;
         mask-at = clear-at 32 m n l;
         mask-other = clear-other 32 m n l;
-        value-at = (let o = bit-or v (b * 2 ^ place) place in let e = shifted-at place b h in let z = F .apart place u in omega arith);
-        value-other = λ k d. let o = bit-or v (b * 2 ^ place) k in let e = shifted-other place k b h d in omega arith;
+        value-at = (let o = bit-or v (b * 2 ^ place) place in let e = bit-placed b place h in let z = F .apart place u in omega arith);
+        value-other = λ k d. let o = bit-or v (b * 2 ^ place) k in let e = bit-placed-other b place k h d in omega arith;
       }
 
   lowest-formed : (b : ℕ) → b < 2 → WellFormed (lowestRow b)
   lowest-formed b h = narrowed-formed (row w m v) place b (lowestRow b) F (narrows b h)
 
   lowest-inside : (b : ℕ) → b < 2 → Inside (lowestRow b) (row w m v)
-  lowest-inside b h x c = narrowed-covers (row w m v) place b (lowestRow b) F (narrows b h) x .0 c .0
+  lowest-inside b h = narrowed-inside (row w m v) place b (lowestRow b) F (narrows b h)
 
-  lowest-either : (x : ℕ) → Covers (row w m v) x → Covers (lowestRow 0) x ⊎ Covers (lowestRow 1) x
-  lowest-either x c = elim (bit-cases x place) [
-    | inl e ↦ inl (narrowed-covers (row w m v) place 0 (lowestRow 0) F (narrows 0 (omega arith)) x .1 (c, e))
-    | inr e ↦ inr (narrowed-covers (row w m v) place 1 (lowestRow 1) F (narrows 1 (omega arith)) x .1 (c, e))
-  ]
+  lowest-apart : (x : ℕ) → Covers (row w m v) x → Covers (lowestRow 0) x ⊎ Covers (lowestRow 1) x
+  lowest-apart = narrowed-apart (row w m v) place (lowestRow 0) (lowestRow 1) F (narrows 0 (omega arith)) (narrows 1 (omega arith))
 
 -- ---- two vectors
 
@@ -75,7 +60,7 @@ pub record Halves (w : ℕ) (o : Operands) (c : ℕ → Operands) : Type 0 where
   pub formed : (b : ℕ) → b < 2 → Formed w (c b .ma) (c b .va) (c b .mb) (c b .vb)
   pub inside : (b : ℕ) → b < 2 → (ns : List ℕ) → Chosen (rowsOf w (c b)) ns → Chosen (rowsOf w o) ns
   pub either : (ns : List ℕ) → Chosen (rowsOf w o) ns → Chosen (rowsOf w (c 0)) ns ⊎ Chosen (rowsOf w (c 1)) ns
-  pub fewer : (b : ℕ) → c b .ma + c b .mb < o .ma + o .mb
+  pub less : (b : ℕ) → c b .ma + c b .mb < o .ma + o .mb
 
 module _ (w : ℕ) (o : Operands) (F : Formed w (o .ma) (o .va) (o .mb) (o .vb)) where
   word : (m v : ℕ) → WellFormed (row w m v) → m < 2 ^ 32
@@ -90,8 +75,8 @@ module _ (w : ℕ) (o : Operands) (F : Formed w (o .ma) (o .va) (o .mb) (o .vb))
       record {
         formed = λ b h. record { most = F .most; first = lowest-formed w m v l (F .first) n b h; second = F .second };
         inside = λ b h. chosen-place [] second _ (row w m v) (lowest-inside w m v l (F .first) n b h);
-        either = apart-place [] second (row w m v) _ _ (lowest-either w m v l (F .first) n);
-        fewer = λ b. omega (arith, clear-less m n);
+        either = apart-place [] second (row w m v) _ _ (lowest-apart w m v l (F .first) n);
+        less = λ b. omega (arith, clear-less m n);
       }
 
   second-halves : o .mb ≢ 0 → Halves w o (λ b. record { ma = o .ma; va = o .va; mb = lowestCleared (o .mb); vb = lowestAs (o .mb) (o .vb) b })
@@ -103,8 +88,8 @@ module _ (w : ℕ) (o : Operands) (F : Formed w (o .ma) (o .va) (o .mb) (o .vb))
       record {
         formed = λ b h. record { most = F .most; first = F .first; second = lowest-formed w m v l (F .second) n b h };
         inside = λ b h. chosen-place first [] _ (row w m v) (lowest-inside w m v l (F .second) n b h);
-        either = apart-place first [] (row w m v) _ _ (lowest-either w m v l (F .second) n);
-        fewer = λ b. omega (arith, clear-less m n);
+        either = apart-place first [] (row w m v) _ _ (lowest-apart w m v l (F .second) n);
+        less = λ b. omega (arith, clear-less m n);
       }
 
   pub halves : UnknownLeft o → Halves w o (caseOf o)

@@ -51,7 +51,7 @@ module _ (kind w k d : ℕ) (o : Operands) (S : Sought kind w k d o) (u : Unknow
       record {
         sought = record { asked = case-asked b h; value = S .value; possible = t };
         inside = H .inside b h;
-        fewer = H .fewer b;
+        less = H .less b;
       }
 
   -- the output bit of the first case

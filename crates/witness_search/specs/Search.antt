@@ -1,4 +1,4 @@
--- The search for such operands. Cited by contracts of inner functions alone: no public contract rests on it.
+-- The search for operands that make a bit 0, or 1 (02, request 7). Cited by contracts of inner functions alone: no public contract rests on it.
 --   rowsOf w o          the two vectors as rows of width w
 --   lowestCleared m     a mask without its lowest set bit;   lowestAs m v b   the value with that bit known as b
 --   caseOf o b          the operands with one unknown bit known as b: the first's lowest, or the second's where the first has none
@@ -6,7 +6,7 @@
 --   mayBe found d       an output bit leaves d possible: 0 unless it is known as 1, 1 unless it is known as 0
 --   Asked kind w k o    add, sub or mul of well-formed vectors of one width, and a bit below it
 --   Sought kind w k d o   and some choice of operands that they cover makes the bit d
---   Narrower kind w k d o r   r covers no other choices than o, the same is sought of it, and fewer of its bits are unknown
+--   Narrower kind w k d o r   r covers no other choices than o, the same is sought of it, and the sum of its masks is less, so that the search ends
 use mathlib.Core.Path.{_≡_}
 use mathlib.Core.Bool.{Bool, true, cond}
 use mathlib.Core.List.{List, [], _∷_}
@@ -58,4 +58,4 @@ pub record Sought (kind w k d : ℕ) (o : Operands) : Type 0 where
 pub record Narrower (kind w k d : ℕ) (o r : Operands) : Type 0 where
   pub sought : Sought kind w k d r
   pub inside : (ns : List ℕ) → Chosen (rowsOf w r) ns → Chosen (rowsOf w o) ns
-  pub fewer : r .ma + r .mb < o .ma + o .mb
+  pub less : r .ma + r .mb < o .ma + o .mb

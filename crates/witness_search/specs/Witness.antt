@@ -1,4 +1,4 @@
--- Two plain operands that make a bit of an operation what it is (02, request 7).
+-- Two plain operands that make a bit of an operation's result 0, or 1 (02, request 7).
 --   addSubMul kind      the kind is add, sub or mul
 --   plainOf kind w      the plain number of that kind over two operands of width w, by their numbers
 --   Makes f rows k b ns   ns is a choice of operands that the rows cover, and bit k of f's result on it is b

@@ -2,14 +2,12 @@
 // as 0 where the bit can then still be what is sought, else as 1.
 ghost use mathlib.Core.Path.{_≡_};
 ghost use mathlib.Core.List.{[], _∷_};
-ghost use Prim.Native.Nat.{_-_, _*_, _^_, _≤_, _<_};
-ghost use lib.Bits.{bitAnd, bitOr};
-ghost use lib.Count.{trailingZeros};
+ghost use Prim.Native.Nat.{_≤_, _<_};
 ghost use Rattle.vectors.specs.OutputBits.{outputBit};
 ghost use Rattle.operations.specs.Kinds.{kindOf};
 ghost use Rattle.operations.specs.Result.{resultOf};
 ghost use Rattle.witness_search.specs.Witness.{addSubMul, plainOf, Makes};
-ghost use Rattle.witness_search.specs.Search.{rowsOf, caseOf, mayBe, UnknownLeft, Asked, Sought, Narrower};
+ghost use Rattle.witness_search.specs.Search.{rowsOf, lowestCleared, lowestAs, caseOf, mayBe, UnknownLeft, Asked, Sought, Narrower};
 use products::product_bit_unchecked;
 use sums::add;
 use sums::sub;
@@ -70,7 +68,7 @@ pub fn operation_bit(kind: u32, w: u32, o: Operands, k: u32) -> OutputBit
 // The vector with its lowest unknown bit known as b.
 fn lowest_as(m: u32, v: u32, b: u32) -> Vector
     requires { ⌜ (1 ≤ m) × (b < 2) ⌝ }
-    ensures { λ r. ⌜ (r .mask ≡ bitAnd m (m - 1)) × (r .value ≡ bitOr v (b * 2 ^ trailingZeros 32 m)) ⌝ }
+    ensures { λ r. ⌜ (r .mask ≡ lowestCleared m) × (r .value ≡ lowestAs m v b) ⌝ }
 {
     Vector {
         mask: m & (m - 1),

@@ -1,13 +1,18 @@
 -- `witness_search::operation_bit` meets its contract: each kind by its routine. Assumes nothing.
 use mathlib.Core.Path.{refl, ap, _∙_}
+use Prim.Native.Nat.{_≤_}
 use native.Mathlib.Omega.{arith}
 use Rattle.vectors.specs.Row.{Row}
 use Rattle.vectors.specs.OutputBits.{outputBit}
 use Rattle.operations.specs.Arithmetic.{opAdd, opSub}
+use Rattle.operations.proofs.TwoRows.{two-ready}
 use Rattle.witness_search.specs.Search.{rowsOf}
-use Rattle.witness_search.proofs.Operations.{is-add, is-sub, is-mul, ready}
+use Rattle.witness_search.proofs.Operations.{is-add, is-sub, is-mul}
 use Rattle.witness_search.proofs.operation_bit.Statement.{statement}
 use Rattle.witness_search.proofs.operation_bit.Tie as tie
+
+wide : (s : tie.Start) → 1 ≤ s .args .w
+wide s = omega (arith, s .pre .below)
 
 product-bit-unchecked-requires : tie.Need-product-bit-unchecked-requires
 product-bit-unchecked-requires c κs = let s = c .before in record { width = s .args .w; formed = s .pre .formed; below = s .pre .below }
@@ -24,9 +29,8 @@ add-requires : tie.Need-add-requires
 unfolding opAdd
 add-requires c κs =
     let s = c .before .before in
-    let a = s .args in
-    let o = a .o in
-    (s .pre .formed .most, ready (a .w) (o .ma) (o .va) (o .mb) (o .vb) (a .k) (s .pre .formed) (s .pre .below) opAdd refl refl refl)
+    let o = s .args .o in
+    (s .pre .formed .most, two-ready opAdd refl refl refl (s .args .w) (o .ma) (o .va) (o .mb) (o .vb) (wide s) (s .pre .formed .first) (s .pre .formed .second))
 
 bit-of-requires : tie.Need-bit-of-requires
 bit-of-requires c κs = let s = c .before .before .before in omega (arith, s .pre .below, s .pre .formed .most)
@@ -41,9 +45,8 @@ sub-requires : tie.Need-sub-requires
 unfolding opSub
 sub-requires c κs =
     let s = c .before .before in
-    let a = s .args in
-    let o = a .o in
-    (s .pre .formed .most, ready (a .w) (o .ma) (o .va) (o .mb) (o .vb) (a .k) (s .pre .formed) (s .pre .below) opSub refl refl refl)
+    let o = s .args .o in
+    (s .pre .formed .most, two-ready opSub refl refl refl (s .args .w) (o .ma) (o .va) (o .mb) (o .vb) (wide s) (s .pre .formed .first) (s .pre .formed .second))
 
 bit-of-requires-2 : tie.Need-bit-of-requires-2
 bit-of-requires-2 c κs = let s = c .before .before .before in omega (arith, s .pre .below, s .pre .formed .most)

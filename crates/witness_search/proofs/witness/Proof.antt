@@ -24,7 +24,7 @@ narrowed-requires : tie.Need-narrowed-requires Inv-loop μ-loop
 narrowed-requires c κs = let l = c .before .before .loop in (l .inv .0, (λ a b. c .if1 .taken (ap₂ bitOr a b)))
 
 loop-less : tie.Need-loop-less Inv-loop μ-loop
-loop-less c = c .narrowed .ensures .fewer
+loop-less c = c .narrowed .ensures .less
 
 loop-again : tie.Need-loop-again Inv-loop μ-loop
 loop-again c = let n = c .narrowed .ensures in (n .sought, (λ ns h. c .before .before .before .loop .inv .1 ns (n .inside ns h)))
