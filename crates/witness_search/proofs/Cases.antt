@@ -21,7 +21,7 @@ use Rattle.vectors.proofs.Apart.{chosen-place, apart-place}
 use Rattle.vectors.proofs.Narrowed.{Narrows, narrowed-formed, narrowed-inside, narrowed-apart}
 use Rattle.columns.specs.Formed.{Formed}
 use Rattle.witness_search.specs.declared.Operands.{Operands}
-use Rattle.witness_search.specs.Search.{rowsOf, lowestCleared, lowestAs, caseOf, UnknownLeft}
+use Rattle.witness_search.specs.Search.{rowsOf, lowestCleared, lowestAs, firstCase, secondCase, caseOf, UnknownLeft}
 
 -- ---- a vector
 
@@ -66,7 +66,7 @@ module _ (w : ℕ) (o : Operands) (F : Formed w (o .ma) (o .va) (o .mb) (o .vb))
   word : (m v : ℕ) → WellFormed (row w m v) → m < 2 ^ 32
   word m v G = lt-of-lt-of-le (G .mask-below) (pow-mono (F .most))
 
-  first-halves : o .ma ≢ 0 → Halves w o (λ b. record { ma = lowestCleared (o .ma); va = lowestAs (o .ma) (o .va) b; mb = o .mb; vb = o .vb })
+  first-halves : o .ma ≢ 0 → Halves w o (firstCase o)
   first-halves n =
       let m = o .ma in
       let v = o .va in
@@ -79,7 +79,7 @@ module _ (w : ℕ) (o : Operands) (F : Formed w (o .ma) (o .va) (o .mb) (o .vb))
         less = λ b. omega (arith, clear-less m n);
       }
 
-  second-halves : o .mb ≢ 0 → Halves w o (λ b. record { ma = o .ma; va = o .va; mb = lowestCleared (o .mb); vb = lowestAs (o .mb) (o .vb) b })
+  second-halves : o .mb ≢ 0 → Halves w o (secondCase o)
   second-halves n =
       let m = o .mb in
       let v = o .vb in
@@ -96,7 +96,6 @@ module _ (w : ℕ) (o : Operands) (F : Formed w (o .ma) (o .va) (o .mb) (o .vb))
   unfolding caseOf
   halves u = go (eqb (o .ma) 0) (eqb→eq (o .ma) 0) (λ e. eq→eqb e)
     where
-      go : (t : Bool) → (T t → o .ma ≡ 0) → (o .ma ≡ 0 → T t)
-          → Halves w o (λ b. cond t (record { ma = o .ma; va = o .va; mb = lowestCleared (o .mb); vb = lowestAs (o .mb) (o .vb) b }) (record { ma = lowestCleared (o .ma); va = lowestAs (o .ma) (o .va) b; mb = o .mb; vb = o .vb }))
+      go : (t : Bool) → (T t → o .ma ≡ 0) → (o .ma ≡ 0 → T t) → Halves w o (λ b. cond t (secondCase o b) (firstCase o b))
       go true a b = second-halves (λ e. u (a tt) e)
       go false a b = first-halves (λ e. b e)

@@ -1,7 +1,8 @@
 -- The search for operands that make a bit 0, or 1 (02, request 7). Cited by contracts of inner functions alone: no public contract rests on it.
 --   rowsOf w o          the two vectors as rows of width w
 --   lowestCleared m     a mask without its lowest set bit;   lowestAs m v b   the value with that bit known as b
---   caseOf o b          the operands with one unknown bit known as b: the first's lowest, or the second's where the first has none
+--   firstCase o b, secondCase o b   the operands with the lowest unknown bit of the first vector, or of the second, known as b
+--   caseOf o b          the first of these, or the second where the first vector has no unknown bit
 --   UnknownLeft o       some bit of the two is unknown
 --   mayBe found d       an output bit leaves d possible: 0 unless it is known as 1, 1 unless it is known as 0
 --   Asked kind w k o    add, sub or mul of well-formed vectors of one width, and a bit below it
@@ -32,10 +33,14 @@ lowestCleared m = bitAnd m (m - 1)
 abbrev pub lowestAs : ℕ → ℕ → ℕ → ℕ
 lowestAs m v b = bitOr v (b * 2 ^ trailingZeros 32 m)
 
+abbrev pub firstCase : Operands → ℕ → Operands
+firstCase o b = record { ma = lowestCleared (o .ma); va = lowestAs (o .ma) (o .va) b; mb = o .mb; vb = o .vb }
+
+abbrev pub secondCase : Operands → ℕ → Operands
+secondCase o b = record { ma = o .ma; va = o .va; mb = lowestCleared (o .mb); vb = lowestAs (o .mb) (o .vb) b }
+
 unfoldable pub caseOf : Operands → ℕ → Operands
-caseOf o b =
-    cond (eqb (o .ma) 0) (record { ma = o .ma; va = o .va; mb = lowestCleared (o .mb); vb = lowestAs (o .mb) (o .vb) b })
-    (record { ma = lowestCleared (o .ma); va = lowestAs (o .ma) (o .va) b; mb = o .mb; vb = o .vb })
+caseOf o b = cond (eqb (o .ma) 0) (secondCase o b) (firstCase o b)
 
 abbrev pub UnknownLeft : Operands → Type 0
 UnknownLeft o = o .ma ≡ 0 → o .mb ≡ 0 → ⊥
