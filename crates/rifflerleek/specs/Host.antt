@@ -57,9 +57,11 @@ bitAnswer (refused number place) = hostRefusal number place
 
 -- ---- four numbers
 
+-- a refusal holds its number and its place, and no other number
 abbrev pub fourRefusal : ℕ → ℕ → FourNumbers
 fourRefusal number place = record { refusal = number; place = place; first = 0; second = 0; third = 0; fourth = 0 }
 
+-- a result has refusal 0 and place 0; what its numbers are is another clause of the call
 abbrev pub FourAnswers : Answer (Unit {0}) → FourNumbers → Type 0
 FourAnswers (done u) r = (r .refusal ≡ 0) × (r .place ≡ 0)
 FourAnswers (refused number place) r = r ≡ fourRefusal number place

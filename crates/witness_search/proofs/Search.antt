@@ -58,11 +58,11 @@ module _ (kind w k d : ℕ) (o : Operands) (S : Sought kind w k d o) (u : Unknow
   abbrev found : Bool
   found = mayBe (outputBit (resultOf (kindOf kind) w 0 (rowsOf w (caseOf o 0))) k) d
 
-  told : found ≡ In 0
-  told = possible-of kind w k d (caseOf o 0) (case-asked 0 (omega arith)) (S .value)
+  found-is : found ≡ In 0
+  found-is = possible-of kind w k d (caseOf o 0) (case-asked 0 (omega arith)) (S .value)
 
   pub first-case : found ≡ true → Narrower kind w k d o (caseOf o 0)
-  first-case e = narrower 0 (omega arith) (subst T (sym e ∙ told) tt)
+  first-case e = narrower 0 (omega arith) (subst T (sym e ∙ found-is) tt)
 
   -- a choice that gives d is in the first case or in the second
   pub second-case : found ≡ false → Narrower kind w k d o (caseOf o 1)
@@ -71,7 +71,7 @@ module _ (kind w k d : ℕ) (o : Operands) (S : Sought kind w k d o) (u : Unknow
       let g = may-elim w f (rowsOf w o) d k (S .possible) in
       narrower 1 (omega arith)
       (elim (H .either (g .numbers) (g .chosen)) [
-        | inl c ↦ absurd (subst T (sym told ∙ e) (may-intro w f (rowsOf w (caseOf o 0)) d k (g .numbers) c (g .gives)))
+        | inl c ↦ absurd (subst T (sym found-is ∙ e) (may-intro w f (rowsOf w (caseOf o 0)) d k (g .numbers) c (g .gives)))
         | inr c ↦ may-intro w f (rowsOf w (caseOf o 1)) d k (g .numbers) c (g .gives)
       ])
 
