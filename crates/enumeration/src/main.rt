@@ -1,17 +1,16 @@
 // The executed tests: every vector pair to width 4, through the public run on real tables, against plain enumeration of all choices.
 // The output has a line for each kind, then one for all records that name one row twice, one for `product_bit`, one for `witnesses`, one for the examples
 // and the total: the name, the tables tried (for `product_bit` and `witnesses` the bits), those that disagree.
-use bare_vectors::each_width;
 use oracle::shapes::KINDS;
 use report::print_kind;
 use report::print_line;
+use sweeps::Through;
 use sweeps::sweep;
 use trials::counting::joined;
 use trials::counting::none;
 use trials::examples::examples;
 
-mod answers; // answers.rt: whether an answer about bare vectors is right
-mod bare_vectors; // bare_vectors.rt: every bit of every sum, difference and product
+mod bare_vectors; // bare_vectors.rt: every bit, through the calls on bare vectors
 mod report; // report.rt: the lines of the output
 mod sweeps; // sweeps.rt: all tables of a kind
 
@@ -20,21 +19,21 @@ fn main() {
     let mut twice = none();
     let mut kind: u64 = 0;
     while kind < KINDS {
-        let tally = sweep(kind, false);
+        let tally = sweep(kind, Through::Run);
         print_kind(kind as usize);
         print_line(tally);
         total = joined(total, tally);
-        twice = joined(twice, sweep(kind, true));
+        twice = joined(twice, sweep(kind, Through::OneRowTwice));
         kind += 1;
     }
     io::write_all(1, b"named twice");
     print_line(twice);
-    let bits = each_width(false, 16);
+    let bits = sweep(16, Through::ProductBit);
     io::write_all(1, b"product_bit");
     print_line(bits);
     let pairs = joined(
-        joined(each_width(true, 13), each_width(true, 14)),
-        each_width(true, 16),
+        joined(sweep(13, Through::Witnesses), sweep(14, Through::Witnesses)),
+        sweep(16, Through::Witnesses),
     );
     io::write_all(1, b"witnesses");
     print_line(pairs);

@@ -1,6 +1,7 @@
-// All tables of a kind: every width, parameter and vector. Where `twice` holds, those in which both operand words name one row.
+// All tables of a kind: every width, parameter and vector.
 ghost use Prim.Native.Nat.{_≤_, _<_};
 ghost use Rattle.oracle.specs.Sizes.{Sized};
+use crate::bare_vectors::each_bit;
 use oracle::choices::Row;
 use oracle::numbers::power;
 use oracle::numbers::word;
@@ -14,6 +15,22 @@ use trials::counting::Tally;
 use trials::counting::joined;
 use trials::counting::none;
 use trials::counting::one;
+
+// What is tried of a table: run of its record, whose operand words name two rows, or one row twice; or a call on its operands as bare vectors.
+pub enum Through {
+    Run,
+    OneRowTwice,
+    ProductBit,
+    Witnesses,
+}
+
+// Whether both operand words name one row.
+fn is_twice(through: Through) -> bool {
+    match through {
+        Through::OneRowTwice => true,
+        _ => false,
+    }
+}
 
 // How many pairs of numbers below 2^w there are: 4^w. One where the row is not used.
 pub fn pairs(used: bool, w: u64) -> u64
@@ -51,18 +68,20 @@ pub fn well_formed(w: u64, v: Row) -> bool
     v.mask & v.value == 0
 }
 
-// Whether run and the enumeration agree.
-fn tried(s: Shape, twice: bool, a: Row, b: Row, c: Row) -> Tally
+// Whether what is tried and the enumeration agree.
+fn tried(s: Shape, through: Through, a: Row, b: Row, c: Row) -> Tally
     requires { ⌜ Sized (s .wt) (s .wa) (s .wb) (s .p) ⌝ }
 {
-    if twice {
-        return one(agrees_twice(s, a, c));
+    match through {
+        Through::Run => one(agrees(s, a, b, c)),
+        Through::OneRowTwice => one(agrees_twice(s, a, c)),
+        Through::ProductBit => each_bit(false, s, a, b),
+        Through::Witnesses => each_bit(true, s, a, b),
     }
-    one(agrees(s, a, b, c))
 }
 
 // Every condition, where the kind uses one.
-fn each_condition(s: Shape, twice: bool, a: Row, b: Row) -> Tally
+fn each_condition(s: Shape, through: Through, a: Row, b: Row) -> Tally
     requires { ⌜ Sized (s .wt) (s .wa) (s .wb) (s .p) ⌝ }
 {
     let end = pairs(uses_condition(s.kind), 1);
@@ -71,7 +90,7 @@ fn each_condition(s: Shape, twice: bool, a: Row, b: Row) -> Tally
     while n < end {
         let c = pair(1, n);
         if well_formed(1, c) {
-            tally = joined(tally, tried(s, twice, a, b, c));
+            tally = joined(tally, tried(s, through, a, b, c));
         }
         n += 1;
     }
@@ -79,17 +98,17 @@ fn each_condition(s: Shape, twice: bool, a: Row, b: Row) -> Tally
 }
 
 // Every second operand, where the kind uses one and it is another row.
-fn each_second(s: Shape, twice: bool, a: Row) -> Tally
+fn each_second(s: Shape, through: Through, a: Row) -> Tally
     requires { ⌜ Sized (s .wt) (s .wa) (s .wb) (s .p) ⌝ }
     requires { ⌜ s .wb ≤ 4 ⌝ }
 {
-    let end = pairs(uses_second(s.kind) && !twice, s.wb);
+    let end = pairs(uses_second(s.kind) && !is_twice(through), s.wb);
     let mut tally = none();
     let mut n: u64 = 0;
     while n < end {
         let b = pair(s.wb, n);
         if well_formed(s.wb, b) {
-            tally = joined(tally, each_condition(s, twice, a, b));
+            tally = joined(tally, each_condition(s, through, a, b));
         }
         n += 1;
     }
@@ -97,7 +116,7 @@ fn each_second(s: Shape, twice: bool, a: Row) -> Tally
 }
 
 // Every first operand.
-fn each_first(s: Shape, twice: bool) -> Tally
+fn each_first(s: Shape, through: Through) -> Tally
     requires { ⌜ Sized (s .wt) (s .wa) (s .wb) (s .p) ⌝ }
     requires { ⌜ (s .wa ≤ 4) × (s .wb ≤ 4) ⌝ }
 {
@@ -107,7 +126,7 @@ fn each_first(s: Shape, twice: bool) -> Tally
     while n < end {
         let a = pair(s.wa, n);
         if well_formed(s.wa, a) {
-            tally = joined(tally, each_second(s, twice, a));
+            tally = joined(tally, each_second(s, through, a));
         }
         n += 1;
     }
@@ -135,13 +154,13 @@ fn can_name_twice(s: Shape) -> bool {
 }
 
 // Every table of a kind.
-pub fn sweep(kind: u64, twice: bool) -> Tally {
+pub fn sweep(kind: u64, through: Through) -> Tally {
     let mut tally = none();
     let mut n: u64 = 0;
     while n < 16384 {
         let s = shape(kind, n);
-        if fits(s) && (!twice || can_name_twice(s)) {
-            tally = joined(tally, each_first(s, twice));
+        if fits(s) && (!is_twice(through) || can_name_twice(s)) {
+            tally = joined(tally, each_first(s, through));
         }
         n += 1;
     }

@@ -5,10 +5,10 @@ use Rattle.enumeration.proofs.bare_vectors.each_bit.Statement.{statemen
 use Rattle.enumeration.proofs.bare_vectors.each_bit.Tie as tie
 
 abbrev Inv-loop : tie.InvT-loop
-Inv-loop witnessed kind w a b right tally₀ k₀ tally k = k ≤ w
+Inv-loop witnessed s a b right tally₀ k₀ tally k = k ≤ s .wa
 
 abbrev μ-loop : tie.MeasureT-loop
-μ-loop witnessed kind w a b right tally₀ k₀ tally k = w - k
+μ-loop witnessed s a b right tally₀ k₀ tally k = s .wa - k
 
 pub each-bit-spec : {M : Type 1} → statement M
 each-bit-spec =
@@ -16,7 +16,6 @@ each-bit-spec =
     (tie.spec
     Inv-loop
     μ-loop
-    (λ c κs. search needs)
     (λ c κs. search needs)
     (λ c κs. search needs)
     (λ c. search needs)

@@ -5,10 +5,10 @@ use Rattle.enumeration.proofs.sweeps.each_condition.Statement.{statemen
 use Rattle.enumeration.proofs.sweeps.each_condition.Tie as tie
 
 abbrev Inv-loop : tie.InvT-loop
-Inv-loop s twice a b end tally₀ n₀ tally n = n ≤ end
+Inv-loop s through a b end tally₀ n₀ tally n = n ≤ end
 
 abbrev μ-loop : tie.MeasureT-loop
-μ-loop s twice a b end tally₀ n₀ tally n = end - n
+μ-loop s through a b end tally₀ n₀ tally n = end - n
 
 pub each-condition-spec : {M : Type 1} → statement M
 each-condition-spec =

@@ -5,10 +5,10 @@ use Rattle.enumeration.proofs.sweeps.each_first.Statement.{statement}
 use Rattle.enumeration.proofs.sweeps.each_first.Tie as tie
 
 abbrev Inv-loop : tie.InvT-loop
-Inv-loop s twice end tally₀ n₀ tally n = n ≤ end
+Inv-loop s through end tally₀ n₀ tally n = n ≤ end
 
 abbrev μ-loop : tie.MeasureT-loop
-μ-loop s twice end tally₀ n₀ tally n = end - n
+μ-loop s through end tally₀ n₀ tally n = end - n
 
 pub each-first-spec : {M : Type 1} → statement M
 each-first-spec =

@@ -5,10 +5,10 @@ use Rattle.enumeration.proofs.sweeps.each_second.Statement.{statement}
 use Rattle.enumeration.proofs.sweeps.each_second.Tie as tie
 
 abbrev Inv-loop : tie.InvT-loop
-Inv-loop s twice a end tally₀ n₀ tally n = n ≤ end
+Inv-loop s through a end tally₀ n₀ tally n = n ≤ end
 
 abbrev μ-loop : tie.MeasureT-loop
-μ-loop s twice a end tally₀ n₀ tally n = end - n
+μ-loop s through a end tally₀ n₀ tally n = end - n
 
 pub each-second-spec : {M : Type 1} → statement M
 each-second-spec =
@@ -16,6 +16,7 @@ each-second-spec =
     (tie.spec
     Inv-loop
     μ-loop
+    (λ c κs. search needs)
     (λ c κs. search needs)
     (λ c κs. search needs)
     (λ c κs. search needs)

@@ -5,10 +5,10 @@ use Rattle.enumeration.proofs.sweeps.sweep.Statement.{statement}
 use Rattle.enumeration.proofs.sweeps.sweep.Tie as tie
 
 abbrev Inv-loop : tie.InvT-loop
-Inv-loop kind twice tally₀ n₀ tally n = n ≤ 16384
+Inv-loop kind through tally₀ n₀ tally n = n ≤ 16384
 
 abbrev μ-loop : tie.MeasureT-loop
-μ-loop kind twice tally₀ n₀ tally n = 16384 - n
+μ-loop kind through tally₀ n₀ tally n = 16384 - n
 
 pub sweep-spec : {M : Type 1} → statement M
 sweep-spec =
@@ -18,6 +18,7 @@ sweep-spec =
     μ-loop
     (λ c κs. search needs)
     (λ c. search needs)
+    (λ c κs. search needs)
     (λ c κs. search needs)
     (λ c κs. search needs)
     (λ c κs. search needs)
