@@ -33,7 +33,7 @@ fn is_twice(through: Through) -> bool {
 }
 
 // How many pairs of numbers below 2^w there are: 4^w. One where the row is not used.
-pub fn pairs(used: bool, w: u64) -> u64
+fn pairs(used: bool, w: u64) -> u64
     requires { ⌜ w ≤ 4 ⌝ }
     ensures { λ r. ⌜ r ≤ 4294967296 ⌝ }
 {
@@ -44,7 +44,7 @@ pub fn pairs(used: bool, w: u64) -> u64
 }
 
 // Pair n of two numbers below 2^w, as a mask and a value.
-pub fn pair(w: u64, n: u64) -> Row
+fn pair(w: u64, n: u64) -> Row
     requires { ⌜ w ≤ 4 ⌝ }
 {
     let low = power(w);
@@ -55,7 +55,7 @@ pub fn pair(w: u64, n: u64) -> Row
 }
 
 // Whether mask and value are those of a vector of width w: no bit at or above it, and no set bit shared.
-pub fn well_formed(w: u64, v: Row) -> bool
+fn well_formed(w: u64, v: Row) -> bool
     requires { ⌜ w ≤ 4 ⌝ }
 {
     let end = power(w);
