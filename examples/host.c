@@ -83,6 +83,14 @@ static void explain(void)
         printf("bit 2 of 0X0 + 011: 0 from %u + %u, 1 from %u + %u\n", n.first, n.second, n.third, n.fourth);
 }
 
+// A fader's converter of width 8 delivers counts between 37 and 47, and its lowest bit is 0: what is known of the count?
+static void fader(void)
+{
+    rifflerleek_four_numbers n = rifflerleek_range(8, 0xfe, 0, 37, 47);
+    if (!refused("range", n.refusal, n.place))
+        printf("XXXXXXX0 between 37 and 47: mask %02x, value %02x, smallest %u, largest %u\n", n.first, n.second, n.third, n.fourth);
+}
+
 int main(void)
 {
     if (!load(text))
@@ -103,5 +111,6 @@ int main(void)
 
     product(); // 3 or 9
     explain(); // 3 or 5
+    fader();   // 0010XXX0
     return 0;
 }

@@ -100,6 +100,12 @@ fn explain(width: u32, a: &Bare, b: &Bare, bit: u32) -> Result<[(u32, u32); 2], 
     given(n.refusal, n.place, [(n.first, n.second), (n.third, n.fourth)])
 }
 
+/// Of the numbers from low to high that the vector covers: the best vector, the smallest and the largest.
+fn range(width: u32, v: &Bare, low: u64, high: u64) -> Result<(Bare, u32, u32), Refusal> {
+    let n = unsafe { rifflerleek::rifflerleek_range(width, v.mask, v.value, low, high) };
+    given(n.refusal, n.place, (Bare { mask: n.first, value: n.second }, n.third, n.fourth))
+}
+
 const TEXT: &str = "row\tlocked\t0000XXXX
 row\tlocked\t01000000
 row\tlocked\t10000000
@@ -135,6 +141,8 @@ fn ask() -> Result<(), Refusal> {
     println!("0011 times 00X1: {letters}"); // 3 or 9
     let [(a, b), (c, d)] = explain(3, &Bare { mask: 2, value: 0 }, &Bare { mask: 0, value: 3 }, 2)?;
     println!("bit 2 of 0X0 + 011: 0 from {a} + {b}, 1 from {c} + {d}"); // 3 or 5
+    let (v, least, most) = range(8, &Bare { mask: 0xfe, value: 0 }, 37, 47)?; // a fader's converter, whose lowest bit is 0
+    println!("XXXXXXX0 between 37 and 47: mask {:02x}, value {:02x}, smallest {least}, largest {most}", v.mask, v.value); // 0010XXX0
     Ok(())
 }
 

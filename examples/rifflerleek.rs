@@ -36,4 +36,5 @@ extern "C" {
     pub fn rifflerleek_field(text: *const u8, text_length: usize, line: usize, field: usize) -> Answer;
     pub fn rifflerleek_product_bit(width: u32, mask_a: u32, value_a: u32, mask_b: u32, value_b: u32, bit: u32) -> Answer;
     pub fn rifflerleek_witnesses(kind: u32, width: u32, mask_a: u32, value_a: u32, mask_b: u32, value_b: u32, bit: u32) -> FourNumbers;
+    pub fn rifflerleek_range(width: u32, mask: u32, value: u32, low: u64, high: u64) -> FourNumbers;
 }

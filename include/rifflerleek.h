@@ -35,7 +35,7 @@ extern "C" {
 
 /* Rises by one with every change that a host can see: of a name, a number, a call, an answer or a lent byte. The header that had
  * no version is version 1. CHANGELOG.md names the changes. */
-#define RIFFLERLEEK_VERSION 9
+#define RIFFLERLEEK_VERSION 10
 
 /* Limits. */
 #define RIFFLERLEEK_ROW_LIMIT 256      /* rows in a table */
@@ -67,6 +67,7 @@ extern "C" {
  *   rifflerleek_field            1     16
  *   rifflerleek_product_bit      2    424
  *   rifflerleek_witnesses        3    568
+ *   rifflerleek_range            1     80
  */
 #define RIFFLERLEEK_DEPTH_LIMIT 4   /* the greatest depth of a call */
 #define RIFFLERLEEK_STACK_LIMIT 728 /* the greatest stack of a call, in bytes */
@@ -126,7 +127,8 @@ enum {
  *   read               2, 11, 12, 13; the table that was read is checked by run, size and write, not by read
  *   field              never refuses
  *   product_bit        4, 5, 15
- *   witnesses          4, 5, 6, 15, 16 */
+ *   witnesses          4, 5, 6, 15, 16
+ *   range              4, 5, 17, 18 */
 enum {
     RIFFLERLEEK_DONE = 0,            /* no refusal */
     RIFFLERLEEK_REFUSED_ROWS = 1,    /* the width slice has no row, or more than the row limit; place 0 */
@@ -148,7 +150,9 @@ enum {
     RIFFLERLEEK_REFUSED_ROOM = 13,   /* row lines or record words exceed the lent slices; place 0 */
     RIFFLERLEEK_REFUSED_BUFFER = 14, /* the output buffer is shorter than the table's text; place 0 */
     RIFFLERLEEK_REFUSED_BIT = 15,    /* the bit number is at or above the width; place 0 */
-    RIFFLERLEEK_REFUSED_KNOWN = 16   /* the bit is known: it is the same for every choice of numbers that the vectors cover; place 0 */
+    RIFFLERLEEK_REFUSED_KNOWN = 16,  /* the bit is known: it is the same for every choice of numbers that the vectors cover; place 0 */
+    RIFFLERLEEK_REFUSED_ENDS = 17,   /* low is greater than high, or an end is not below 2^width; place 0 */
+    RIFFLERLEEK_REFUSED_EMPTY = 18   /* no number lies between the ends and is covered by the vector; place 0 */
 };
 
 /* Runs the records from first up to but not including last, after a check of the whole table. result is last, and mask and value
@@ -204,6 +208,14 @@ rifflerleek_answer rifflerleek_product_bit(uint32_t width, uint32_t mask_a, uint
  * Which such pairs they are is left open. The operands are independent, also where both vectors are equal. Refusals 4, 5, 6, 15, 16. */
 rifflerleek_four_numbers rifflerleek_witnesses(uint32_t kind, uint32_t width, uint32_t mask_a, uint32_t value_a, uint32_t mask_b,
                                                uint32_t value_b, uint32_t bit);
+
+/* A register that is known within a range: the numbers that lie between low and high, both included, and that a bare vector covers.
+ * first and second are the mask and the value of the best vector that covers them all, third is the smallest of them, fourth the largest.
+ * Say a fader's converter of width 8, whose lowest bit is 0, delivers counts between 37 and 47: rifflerleek_range(8, 0xfe, 0, 37, 47)
+ * gives 0x0e and 0x20 (0010XXX0), 38 and 46. Where the vector is a start row of a table, a run that is accepted from it is also
+ * accepted with this answer in its place, and covers at every point each plain run whose number for that row starts between the ends.
+ * The time is linear in the width. Refusals 4, 5, 17, 18. */
+rifflerleek_four_numbers rifflerleek_range(uint32_t width, uint32_t mask, uint32_t value, uint64_t low, uint64_t high);
 
 #ifdef __cplusplus
 }

@@ -6,7 +6,7 @@
 
 enum { GUARD = 64 };
 
-const char *const call_names[CALLS] = {"run", "count", "size", "write", "read", "listing", "field", "product_bit", "witnesses"};
+const char *const call_names[CALLS] = {"run", "count", "size", "write", "read", "listing", "field", "product_bit", "witnesses", "range"};
 unsigned seen[CALLS][REFUSALS];
 size_t call_number;
 
@@ -70,6 +70,12 @@ void compare(int name, rifflerleek_answer a, struct ref_answer b)
         free(l->reference);
     }
     seen[name][b.refusal]++;
+}
+
+void count_faults(const uint32_t (*pairs)[2], int number, unsigned *counts, uint32_t given, uint32_t left)
+{
+    for (int i = 0; i < number; i++)
+        counts[i] += given == pairs[i][0] && left == pairs[i][1];
 }
 
 int report_counts(const char *name, const char *each, const unsigned *counts, int number)

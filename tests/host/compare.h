@@ -6,7 +6,7 @@
 #include "draw.h"
 
 // The calls, read twice: of a text without the header, and of a listing, which has it.
-enum { RUN, COUNT, SIZE, WRITE, READ, LISTING, FIELD, PRODUCT_BIT, WITNESSES, CALLS, REFUSALS = 17 };
+enum { RUN, COUNT, SIZE, WRITE, READ, LISTING, FIELD, PRODUCT_BIT, WITNESSES, RANGE, CALLS, REFUSALS = 19 };
 
 extern const char *const call_names[CALLS];
 
@@ -22,6 +22,9 @@ struct ref_table lend_table(struct draft *d, struct ref_table *reference);
 
 // Compares the answers and every byte lent, guards too, and takes the slices back. Where they differ the program ends.
 void compare(int name, rifflerleek_answer a, struct ref_answer b);
+
+// Counts two faults at once, by their refusals: the one that was given, and the one that is left where that is mended.
+void count_faults(const uint32_t (*pairs)[2], int number, unsigned *counts, uint32_t given, uint32_t left);
 
 // Prints so many counts, each after its letter where there are letters: how many are 0.
 int report_counts(const char *name, const char *each, const unsigned *counts, int number);

@@ -43,6 +43,10 @@ uint32_t far_off(uint32_t limit);
 // that bit, and a kind that witnesses takes: half of them with up to four faults.
 void draw_operands(struct ref_operands *o);
 
+// A bare vector and two ends, often at 0, at 2^width - 1, at or beside a number that the vector covers, or near each other: half of them
+// with up to three faults, of the width, the vector or the ends, which may be exchanged, 2^width or beyond.
+void draw_interval(struct ref_interval *i);
+
 // The five slices of a draft.
 struct ref_table slices(struct draft *d);
 

@@ -1,4 +1,4 @@
-// Random vectors, alone and as operands, and faults of them.
+// Random vectors, alone, as operands and with ends, and faults of them.
 #include "draw.h"
 
 unsigned draw_width(void)
@@ -52,11 +52,16 @@ uint32_t far_off(uint32_t limit)
     return far[below(7)];
 }
 
+static uint32_t draw_bad_width(void)
+{
+    return percent(30) ? 0 : percent(20) ? (uint32_t)draw() : far_off(33);
+}
+
 static void damage_operands(struct ref_operands *o)
 {
     uint32_t limit = o->width >= 1 && o->width <= 32 ? o->width : 32;
     switch (below(6)) {
-    case 0: o->width = percent(30) ? 0 : percent(20) ? (uint32_t)draw() : far_off(33); return;
+    case 0: o->width = draw_bad_width(); return;
     case 1: o->width = 1 + (uint32_t)below(32); return; // the vectors and the bit stay
     case 2: damage_vector(&o->a, o->width); return;
     case 3: damage_vector(&o->b, o->width); return;
@@ -89,4 +94,52 @@ void draw_operands(struct ref_operands *o)
         make_unknown(o);
     for (size_t faults = percent(50) ? 0 : 1 + below(4); faults > 0; faults--)
         damage_operands(o);
+}
+
+// A number below 2^width.
+static uint64_t draw_end(const struct ref_interval *i)
+{
+    uint64_t all = UINT32_MAX >> (32 - i->width), covered = i->v.value | (draw() & i->v.mask);
+    uint64_t ends[] = {0, all, draw() & all, covered, covered - (covered > 0), covered + (covered < all)};
+    return ends[below(6)];
+}
+
+// 2^width or a greater number; of some a careless cast would make one that is right.
+static uint64_t draw_bad_end(const struct ref_interval *i)
+{
+    uint64_t end = (uint64_t)1 << (i->width < 32 ? i->width : 32), small = draw() & (end - 1);
+    uint64_t ends[] = {end, end + 1, end + small, ((uint64_t)1 << 32) + small, ((uint64_t)1 << 63) + small, UINT64_MAX};
+    return ends[below(6)];
+}
+
+static void exchange_ends(struct ref_interval *i)
+{
+    uint64_t low = i->low;
+    i->low = i->high;
+    i->high = low;
+}
+
+static void damage_interval(struct ref_interval *i)
+{
+    switch (below(6)) {
+    case 0: i->width = draw_bad_width(); return;
+    case 1: i->width = draw_width(); return; // the vector and the ends stay
+    case 2: damage_vector(&i->v, i->width); return;
+    case 3: i->low = draw_bad_end(i); return;
+    case 4: i->high = draw_bad_end(i); return;
+    default: exchange_ends(i); return;
+    }
+}
+
+void draw_interval(struct ref_interval *i)
+{
+    i->width = draw_width();
+    i->v = draw_vector(i->width, below(STYLES));
+    i->low = draw_end(i);
+    uint64_t near = i->low + ((draw() & (UINT32_MAX >> (32 - i->width))) >> below(i->width));
+    i->high = percent(40) && near >> i->width == 0 ? near : draw_end(i);
+    if (i->low > i->high)
+        exchange_ends(i);
+    for (size_t faults = percent(50) ? 0 : 1 + below(3); faults > 0; faults--)
+        damage_interval(i);
 }

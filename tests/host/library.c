@@ -1,27 +1,24 @@
-// The library's calls, on slices lent together or on bare vectors, each made on a stack of its own, so that the stack it takes can be
-// measured.
+// The library's calls on slices lent together, and the stack on which every call is made.
 #include "library.h"
 #include <string.h>
 #include <ucontext.h>
 
 enum { STACK = 1 << 16, PAINT = 0x5c };
 
-// The call at hand: its slices, its buffer or text, its two numbers, its bare vectors, and its answer, of either struct.
+// The call at hand: its slices, its buffer or text, its two numbers, and its answer.
 static struct {
     struct ref_table t;
     uint8_t *out;
     const uint8_t *text;
     size_t length, x, y;
-    struct ref_operands o;
     rifflerleek_answer answer;
-    rifflerleek_four_numbers numbers;
 } call;
 
 static unsigned char stack[STACK];
 static ucontext_t here, there;
 
-// Makes the call on the stack, which is painted before the first one: what a call writes there stays visible.
-static rifflerleek_answer on_stack(void (*make)(void))
+// The stack is painted before the first call: what a call writes there stays visible.
+void on_stack(void (*make)(void))
 {
     static int painted;
     if (!painted)
@@ -33,7 +30,6 @@ static rifflerleek_answer on_stack(void (*make)(void))
     there.uc_link = &here;
     makecontext(&there, make, 0);
     swapcontext(&here, &there);
-    return call.answer;
 }
 
 size_t library_stack(void)
@@ -77,16 +73,10 @@ static void make_field(void)
     call.answer = rifflerleek_field(call.text, call.length, call.x, call.y);
 }
 
-static void make_product_bit(void)
+static rifflerleek_answer answer_of(void (*make)(void))
 {
-    const struct ref_operands *o = &call.o;
-    call.answer = rifflerleek_product_bit(o->width, o->a.mask, o->a.value, o->b.mask, o->b.value, o->bit);
-}
-
-static void make_witnesses(void)
-{
-    const struct ref_operands *o = &call.o;
-    call.numbers = rifflerleek_witnesses(o->kind, o->width, o->a.mask, o->a.value, o->b.mask, o->b.value, o->bit);
+    on_stack(make);
+    return call.answer;
 }
 
 rifflerleek_answer library_run(struct ref_table *t, size_t first, size_t last)
@@ -94,20 +84,20 @@ rifflerleek_answer library_run(struct ref_table *t, size_t first, size_t last)
     call.t = *t;
     call.x = first;
     call.y = last;
-    return on_stack(make_run);
+    return answer_of(make_run);
 }
 
 rifflerleek_answer library_count(struct ref_table *t, size_t row)
 {
     call.t = *t;
     call.x = row;
-    return on_stack(make_count);
+    return answer_of(make_count);
 }
 
 rifflerleek_answer library_size(struct ref_table *t)
 {
     call.t = *t;
-    return on_stack(make_size);
+    return answer_of(make_size);
 }
 
 rifflerleek_answer library_write(struct ref_table *t, uint8_t *out, size_t length)
@@ -115,7 +105,7 @@ rifflerleek_answer library_write(struct ref_table *t, uint8_t *out, size_t lengt
     call.t = *t;
     call.out = out;
     call.length = length;
-    return on_stack(make_write);
+    return answer_of(make_write);
 }
 
 rifflerleek_answer library_read(const uint8_t *text, size_t length, struct ref_table *t)
@@ -123,7 +113,7 @@ rifflerleek_answer library_read(const uint8_t *text, size_t length, struct ref_t
     call.t = *t;
     call.text = text;
     call.length = length;
-    return on_stack(make_read);
+    return answer_of(make_read);
 }
 
 rifflerleek_answer library_field(const uint8_t *text, size_t length, size_t line, size_t field)
@@ -132,18 +122,5 @@ rifflerleek_answer library_field(const uint8_t *text, size_t length, size_t line
     call.length = length;
     call.x = line;
     call.y = field;
-    return on_stack(make_field);
-}
-
-rifflerleek_answer library_product_bit(const struct ref_operands *o)
-{
-    call.o = *o;
-    return on_stack(make_product_bit);
-}
-
-rifflerleek_four_numbers library_witnesses(const struct ref_operands *o)
-{
-    call.o = *o;
-    on_stack(make_witnesses);
-    return call.numbers;
+    return answer_of(make_field);
 }

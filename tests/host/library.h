@@ -14,6 +14,10 @@ rifflerleek_answer library_read(const uint8_t *text, size_t length, struct ref_t
 rifflerleek_answer library_field(const uint8_t *text, size_t length, size_t line, size_t field);
 rifflerleek_answer library_product_bit(const struct ref_operands *o);
 rifflerleek_four_numbers library_witnesses(const struct ref_operands *o);
+rifflerleek_four_numbers library_range(const struct ref_interval *i);
+
+// Makes a call on the stack that is measured.
+void on_stack(void (*make)(void));
 
 // The most bytes of stack that a call has taken so far, with those that making it takes: at most LIBRARY_CALLER, for the frame of the
 // function that makes it and for its arguments.

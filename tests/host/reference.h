@@ -29,6 +29,18 @@ struct ref_operands {
     struct ref_vector a, b;
 };
 
+// A bare vector and two ends.
+struct ref_interval {
+    uint32_t width;
+    struct ref_vector v;
+    uint64_t low, high;
+};
+
+// What range answers: a refusal, else the mask and the value of the best vector, the smallest number and the largest.
+struct ref_numbers {
+    uint32_t refusal, first, second, third, fourth;
+};
+
 enum { KINDS = 24, ADD = 13, SUB = 14, MUL = 16, ITE = 20, UMULW = 21, SMULW = 22, SUMULW = 23 };
 
 // What a word of a record means for its kind.
@@ -63,6 +75,10 @@ int ref_values(const struct ref_op *o, const struct ref_vector v[3], unsigned k,
 
 // Whether mask and value share no bit and have none at or above the width, 1 to 32.
 int ref_well_formed(uint32_t width, struct ref_vector v);
+
+// Refusals 4 and 5 of a bare vector: a refusal number, or 0. Whether such a vector covers a number.
+uint32_t ref_vector_refusal(uint32_t width, struct ref_vector v);
+int ref_covers(struct ref_vector v, uint64_t n);
 
 struct ref_answer ref_result(size_t result, uint64_t second_result);
 struct ref_answer ref_refusal(uint32_t number, size_t place);
@@ -100,5 +116,8 @@ uint32_t ref_witnesses(const struct ref_operands *o, unsigned limit, int *exact)
 
 // Whether the vectors, which witnesses accepts, cover a and b, and the plain result of a and b has this value at the bit.
 int ref_shows(const struct ref_operands *o, uint32_t a, uint32_t b, uint64_t value);
+
+// Worked out bit by bit, and also by going through the numbers between the ends, or those covered, where these are at most 2^limit.
+struct ref_numbers ref_range(const struct ref_interval *i, unsigned limit);
 
 #endif

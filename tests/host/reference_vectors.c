@@ -1,12 +1,22 @@
-// The calls on bare vectors.
+// The calls on bare vectors, but range.
 #include "reference.h"
 
-// Refusals 4 and 5: a refusal number, or 0.
+uint32_t ref_vector_refusal(uint32_t width, struct ref_vector v)
+{
+    if (width < 1 || width > 32)
+        return 4;
+    return ref_well_formed(width, v) ? 0 : 5;
+}
+
+int ref_covers(struct ref_vector v, uint64_t n)
+{
+    return (n & ~(uint64_t)v.mask) == v.value;
+}
+
 static uint32_t operands_refusal(const struct ref_operands *o)
 {
-    if (o->width < 1 || o->width > 32)
-        return 4;
-    return ref_well_formed(o->width, o->a) && ref_well_formed(o->width, o->b) ? 0 : 5;
+    uint32_t refusal = ref_vector_refusal(o->width, o->a);
+    return refusal != 0 ? refusal : ref_vector_refusal(o->width, o->b);
 }
 
 static struct ref_op operation(uint32_t kind, uint32_t width)
@@ -50,13 +60,8 @@ uint32_t ref_witnesses(const struct ref_operands *o, unsigned limit, int *exact)
     return seen == 1 || seen == 2 ? 16 : 0;
 }
 
-static int covers(struct ref_vector v, uint32_t n)
-{
-    return (n & ~v.mask) == v.value;
-}
-
 int ref_shows(const struct ref_operands *o, uint32_t a, uint32_t b, uint64_t value)
 {
     struct ref_op op = operation(o->kind, o->width);
-    return covers(o->a, a) && covers(o->b, b) && ref_bit(ref_plain(&op, a, b, 0), o->bit) == value;
+    return ref_covers(o->a, a) && ref_covers(o->b, b) && ref_bit(ref_plain(&op, a, b, 0), o->bit) == value;
 }

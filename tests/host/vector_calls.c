@@ -1,4 +1,4 @@
-// Random calls on bare vectors: product_bit and witnesses.
+// Random calls on two bare vectors: product_bit and witnesses.
 #include "vector_calls.h"
 #include <stdio.h>
 #include <stdlib.h>
@@ -20,13 +20,6 @@ static struct ref_operands mended(struct ref_operands o, uint32_t refusal)
     else if (refusal == RIFFLERLEEK_REFUSED_KIND)
         o.kind = MUL;
     return o;
-}
-
-// Counts a refusal, and the one that is left where the operands are mended.
-static void count_faults(unsigned *counts, uint32_t refusal, uint32_t left)
-{
-    for (int i = 0; i < FAULTS; i++)
-        counts[i] += refusal == two_faults[i][0] && left == two_faults[i][1];
 }
 
 // Whether the vectors are equal, and the bit would be 0 if both operands were one number: bit 0 of a + a, a bit of a - a, bit 1 of a * a.
@@ -52,7 +45,7 @@ void call_product_bit(void)
         product_independent += shows_independence(MUL, &o) && a.result == RIFFLERLEEK_UNKNOWN_BIT;
     } else {
         struct ref_operands rest = mended(o, a.refusal);
-        count_faults(product_faults, a.refusal, ref_product_bit(&rest, 0, &exact).refusal);
+        count_faults(two_faults, FAULTS, product_faults, a.refusal, ref_product_bit(&rest, 0, &exact).refusal);
     }
 }
 
@@ -91,7 +84,7 @@ static void count_witnesses(const struct ref_operands *o, uint32_t refusal)
         independent[o->kind == ADD ? 0 : o->kind == SUB ? 1 : 2] += (unsigned)shows_independence(o->kind, o);
     } else {
         struct ref_operands rest = mended(*o, refusal);
-        count_faults(faults, refusal, ref_witnesses(&rest, 0, &exact));
+        count_faults(two_faults, FAULTS, faults, refusal, ref_witnesses(&rest, 0, &exact));
     }
 }
 

@@ -1,4 +1,4 @@
-// Random calls on bare vectors.
+// Random calls on two bare vectors.
 #ifndef VECTOR_CALLS_H
 #define VECTOR_CALLS_H
 

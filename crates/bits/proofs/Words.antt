@@ -5,14 +5,14 @@
 --   le-of-bits   whole numbers in order
 --   or-cases     a set bit of m | n is one of m or of n
 --   or-zero      numbers whose | is 0 are 0;  xor-zero   numbers whose ^ is 0 are equal
---   shifted-bit, shifted-one   a bit at place i of a word
+--   shifted-bit, shifted-one   a bit at place i of a word;  bit-word   bit k of a word as the code takes it
 use mathlib.Core.Path.{_≡_, sym, ap, _∙_}
 use mathlib.Core.Logic.{_⊎_, inl, inr}
-use Prim.Native.Nat.{ℕ, zero, suc, _+_, _-_, _*_, _%_, _^_, _≤_, _<_, min}
+use Prim.Native.Nat.{ℕ, zero, suc, _+_, _-_, _*_, _/_, _%_, _^_, _≤_, _<_, min}
 use native.Mathlib.Nat.{mod-one, mod-eq-of-lt, mod-add-mod, add-mod-right, add-assoc, mul-le-mul-right, one-mul}
 use native.Mathlib.Omega.{arith}
 use lib.Pow.{mod-mod-pow, shl-exact}
-use lib.Bits.{bitAnd, bitOr, bitXor, and-le-l, and-le-r, or-add-and, xor-add-and}
+use lib.Bits.{bitAnd, bitOr, bitXor, and-le-l, and-le-r, or-add-and, xor-add-and, and-mask}
 use Rattle.bits.specs.Bit.{bit}
 use Rattle.bits.proofs.Bits.{bit-and, bit-or, bit-cases}
 use Rattle.bits.proofs.Shifts.{mod-pow-suc}
@@ -63,3 +63,7 @@ shifted-bit v u i h l = shl-exact 1 i v h (omega arith)
 
 pub shifted-one : (v i : ℕ) → i < v → 1 * 2 ^ i % 2 ^ v ≡ 2 ^ i
 shifted-one v i l = shifted-bit v 1 i (omega arith) l ∙ one-mul (2 ^ i)
+
+pub bit-word : (n k : ℕ) → bitAnd (n / 2 ^ k) 1 ≡ bit n k
+unfolding bit
+bit-word n k = and-mask (n / 2 ^ k) 1

@@ -1,5 +1,6 @@
 -- The laws and proofs of `checks`.
 pub mod Verdicts
+pub mod Numbered
 pub mod RowChecks
 pub mod Accepts
 pub mod Rules

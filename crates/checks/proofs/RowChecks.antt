@@ -1,5 +1,5 @@
 -- A row's checks 4 and 5, and a record's checks 6 to 9, passed: what that gives, both ways. Assumes nothing.
-use mathlib.Core.Path.{_≡_}
+use mathlib.Core.Path.{_≡_, sym, ap, _∙_}
 use mathlib.Core.Bool.{not}
 use mathlib.Core.List.{List, []}
 use Prim.Native.Nat.{ℕ, _≤_, _<_}
@@ -16,10 +16,14 @@ use Rattle.vectors.proofs.Rows.{apart-of-and, and-of-apart}
 use Rattle.operations.specs.Kind.{Use, asRow, asNumber, unused}
 use Rattle.operations.specs.Kinds.{isKind}
 use Rattle.operations.specs.Record.{kindWord, targetWord, firstWord, secondWord, parameterWord, kindIn, widthAt, used, rowsNamed, wordOutside, widthsFit, recordFaults}
+use Rattle.checks.specs.declared.Verdict.{Verdict}
+use Rattle.checks.specs.declared.Verdict.the-variants.{Passed as Clear}
 use Rattle.checks.specs.Check.{placed, Passed}
+use Rattle.checks.specs.Model.{verdictModel, judged}
 use Rattle.checks.specs.Table.{Table}
 use Rattle.checks.specs.Checks.{widthFaults, vectorFaults, rowFaultsAt}
 use Rattle.checks.specs.Accepted.{RowPassed, RecordPassed}
+use Rattle.checks.proofs.Verdicts.{passed-of-done}
 
 pub positive : (n : ℕ) → T (not (eqb n 0)) → 1 ≤ n
 positive n p = nleb→lt n 0 (not-T (leb n 0) (λ q. T-not (eqb n 0) p (eq→eqb (zero-of n (leb→le n 0 q)))))
@@ -32,6 +36,10 @@ not-zero n h = not-T (eqb n 0) (λ q. let e = eqb→eq n 0 q in omega arith)
 
 pub width-of-passed : (w j : ℕ) → Passed (placed j (widthFaults w)) → (1 ≤ w) × (w ≤ widthLimit)
 width-of-passed w j P = (positive w (P .0), nltb→le _ _ (P .1 .0))
+
+-- the same of a verdict that is clear
+pub width-of-clear : (w j : ℕ) (r : Verdict) → verdictModel r ≡ judged (placed j (widthFaults w)) → r ≡ Clear → (1 ≤ w) × (w ≤ widthLimit)
+width-of-clear w j r e p = width-of-passed w j (passed-of-done (placed j (widthFaults w)) tt tt (sym e ∙ ap verdictModel p))
 
 pub vector-of-passed : (w m v j : ℕ) → Passed (placed j (vectorFaults w m v)) → WellFormed (row w m v)
 vector-of-passed w m v j P =

@@ -81,16 +81,17 @@ unfolding verdict
 verdict-passed [] ds a p = refl
 verdict-passed (c ∷ cs) ds a p = passes (c .fails) (refused (c .number) (c .place)) (verdict (cs ++ ds) a) (p .0) ∙ verdict-passed cs ds a (p .1)
 
+-- the number that an answer refuses with
+abbrev pub number-of : {A : Type 0} → Answer A → ℕ
+number-of (done a) = 0
+number-of (refused n i) = n
+
 -- a refusal stands, whatever checks come after it and whatever the answer would have been
 pub verdict-refused : {A B : Type 0} (cs ds : List Check) (a : A) (b : B) (n i : ℕ) → verdict cs a ≡ refused n i → verdict (cs ++ ds) b ≡ refused n i
 unfolding verdict
 verdict-refused [] ds a b n i e = let z : _≡_ {A = ℕ} 0 1 = cc in absurd (omega arith)
 verdict-refused {A} {B} (c ∷ cs) ds a b n i e = go (c .fails) e (verdict-refused cs ds a b n i)
   where
-    number-of : {C : Type 0} → Answer C → ℕ
-    number-of (done x) = 0
-    number-of (refused m j) = m
-
     place-of : {C : Type 0} → Answer C → ℕ
     place-of (done x) = 0
     place-of (refused m j) = j

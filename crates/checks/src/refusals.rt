@@ -31,3 +31,7 @@ pub const BUFFER: u32 = 14;
 pub const BIT: u32 = 15;
 
 pub const KNOWN: u32 = 16;
+
+pub const ENDS: u32 = 17;
+
+pub const EMPTY: u32 = 18;

@@ -72,6 +72,8 @@ fn print_refusals() {
     print_refusal(b"buffer", refusals::BUFFER);
     print_refusal(b"bit", refusals::BIT);
     print_refusal(b"known", refusals::KNOWN);
+    print_refusal(b"ends", refusals::ENDS);
+    print_refusal(b"empty", refusals::EMPTY);
 }
 
 // The most bytes of a row line, as the definitions have it.

@@ -37,10 +37,16 @@ pub fn print_kind(kind: usize)
 }
 
 // The rest of a line: the tables tried, and those that disagree.
-pub fn print_line(tally: Tally) {
+pub fn print_tally(tally: Tally) {
     io::write_all(1, b"\t");
     io::print_decimal(1, tally.tried);
     io::write_all(1, b"\t");
     io::print_decimal(1, tally.wrong);
     io::write_all(1, b"\n");
+}
+
+// A line: its name, then that.
+pub fn print_line(name: &[u8], tally: Tally) {
+    io::write_all(1, name);
+    print_tally(tally);
 }

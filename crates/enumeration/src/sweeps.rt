@@ -1,7 +1,6 @@
 // All tables of a kind: every width, parameter and vector.
 ghost use Prim.Native.Nat.{_≤_, _<_};
 ghost use Rattle.oracle.specs.Sizes.{Sized};
-use crate::bare_vectors::each_bit;
 use oracle::choices::Row;
 use oracle::numbers::power;
 use oracle::numbers::word;
@@ -15,6 +14,8 @@ use trials::counting::Tally;
 use trials::counting::joined;
 use trials::counting::none;
 use trials::counting::one;
+use vector_trials::operation_bits::each_bit;
+use vector_trials::ranges::each_low_end;
 
 // What is tried of a table: run of its record, whose operand words name two rows, or one row twice; or a call on its operands as bare vectors.
 pub enum Through {
@@ -22,6 +23,7 @@ pub enum Through {
     OneRowTwice,
     ProductBit,
     Witnesses,
+    Range,
 }
 
 // Whether both operand words name one row.
@@ -77,6 +79,7 @@ fn tried(s: Shape, through: Through, a: Row, b: Row, c: Row) -> Tally
         Through::OneRowTwice => one(agrees_twice(s, a, c)),
         Through::ProductBit => each_bit(false, s, a, b),
         Through::Witnesses => each_bit(true, s, a, b),
+        Through::Range => each_low_end(s.wa, a),
     }
 }
 

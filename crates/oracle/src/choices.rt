@@ -22,12 +22,12 @@ pub struct Seen {
 }
 
 // No choice.
-fn nothing() -> Seen {
+pub fn nothing() -> Seen {
     Seen { zeros: 0, ones: 0 }
 }
 
 // The choices of both.
-fn both(a: Seen, b: Seen) -> Seen {
+pub fn both(a: Seen, b: Seen) -> Seen {
     Seen {
         zeros: a.zeros | b.zeros,
         ones: a.ones | b.ones,
@@ -121,7 +121,7 @@ fn of_all(s: Shape, one: bool, a: Row, b: Row, c: Row) -> Seen
 }
 
 // A bit that is seen 0 and seen 1 is unknown.
-fn row_of(seen: Seen) -> Row {
+pub fn row_of(seen: Seen) -> Row {
     let unknown = seen.zeros & seen.ones;
     Row {
         mask: unknown,

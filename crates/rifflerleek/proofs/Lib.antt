@@ -1,5 +1,6 @@
 -- The laws and proofs of `rifflerleek`.
 pub mod Hosted
 pub mod Numbered
+pub mod HostRanges
 pub mod Runs
 pub mod Starts

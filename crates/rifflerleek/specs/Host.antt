@@ -5,6 +5,7 @@
 --   bitNumber b       an output bit as a number: 2 for X;   bitAnswer   of product_bit
 --   fourRefusal n p   a refusal of a call that gives four numbers: they are 0;   FourAnswers a r   r refuses as a does, or is done
 --   pairOf x y        two of them as operands
+--   rangeAnswer       of range: a vector's mask and value, the smallest and the largest number;   rangeHeld r   these of a host's answer
 --   Outcome L         an answer, and what the call leaves in the slices;   outcome r left   these of a host
 --   hostRan, hostWritten, hostRead   these of what run, write and read answer and leave
 use mathlib.Core.Path.{_≡_}
@@ -13,6 +14,7 @@ use Prim.Native.Nat.{ℕ}
 use Rattle.vectors.specs.declared.OutputBit.{OutputBit}
 use Rattle.vectors.specs.declared.OutputBit.the-variants.{Zero, One, Unknown}
 use Rattle.witness_search.specs.declared.Pair.{Pair}
+use Rattle.range_search.specs.declared.Range.{Range}
 use Rattle.checks.specs.Check.{Answer, done, refused}
 use Rattle.checks.specs.Table.{State, Table}
 use Rattle.tables.specs.Run.{Ran, Count}
@@ -69,6 +71,14 @@ FourAnswers (refused number place) r = r ≡ fourRefusal number place
 -- "pairs of covered operands" (02, request 7)
 abbrev pub pairOf : ℕ → ℕ → Pair
 pairOf x y = record { a = x; b = y }
+
+-- "the best vector .. with the smallest and the largest of them" (02, request 8)
+abbrev pub rangeAnswer : Answer Range → FourNumbers
+rangeAnswer (done x) = record { refusal = 0; place = 0; first = x .mask; second = x .value; third = x .smallest; fourth = x .largest }
+rangeAnswer (refused number place) = fourRefusal number place
+
+abbrev pub rangeHeld : FourNumbers → Range
+rangeHeld r = record { mask = r .first; value = r .second; smallest = r .third; largest = r .fourth }
 
 -- ---- with what is left in the slices
 

@@ -1,9 +1,14 @@
-// The calls on bare vectors, exported (02, requests 6 and 7).
+// The calls on bare vectors, exported (02, requests 6, 7 and 8).
 ghost use mathlib.Core.Path.{_≡_};
+ghost use mathlib.Core.Logic.{_↔_};
+ghost use Rattle.vectors.specs.Row.{row};
+ghost use Rattle.range_search.specs.Range.{Ranged};
 ghost use Rattle.checks.specs.Model.{judged};
 ghost use Rattle.vector_calls.specs.Calls.{productBitOf};
 ghost use Rattle.vector_calls.specs.Witnesses.{witnessChecks, Unsettles};
-ghost use Rattle.rifflerleek.specs.Host.{bitNumber, bitAnswer, fourRefusal, FourAnswers, pairOf};
+ghost use Rattle.vector_calls.specs.Ranges.{rangeOf, Absent};
+ghost use Rattle.vector_calls.specs.RangeRuns.{RunsOn};
+ghost use Rattle.rifflerleek.specs.Host.{bitNumber, bitAnswer, fourRefusal, FourAnswers, pairOf, rangeAnswer, rangeHeld};
 use crate::Answer;
 use crate::DONE;
 use crate::UNKNOWN_BIT;
@@ -11,6 +16,7 @@ use crate::done;
 use crate::refused;
 use checks::Refusal;
 use vector_calls::BitAnswer;
+use vector_calls::RangeAnswer;
 use vector_calls::WitnessAnswer;
 use vectors::OutputBit;
 
@@ -93,5 +99,33 @@ pub extern "C" fn rifflerleek_witnesses(
             fourth: one.b,
         },
         WitnessAnswer::Refused(r) => no_numbers(r),
+    }
+}
+
+// The best vector covering all numbers between two ends that a vector covers: `first` and `second` of the answer are its mask and value, `third` and `fourth`
+// the smallest and the largest of these numbers.
+#[no_mangle]
+pub extern "C" fn rifflerleek_range(
+    width: u32,
+    mask: u32,
+    value: u32,
+    low: u64,
+    high: u64,
+) -> FourNumbers
+    ensures answer { λ r. ⌜ r ≡ rangeAnswer (rangeOf width mask value low high) ⌝ }
+    ensures best { λ r. ⌜ (r .refusal ≡ 0 → Ranged (row width mask value) low high (rangeHeld r)) ⌝ }
+    ensures empty { λ r. ⌜ (r ≡ fourRefusal 18 0) ↔ Absent width mask value low high ⌝ }
+    ensures runs { λ r. ⌜ (r .refusal ≡ 0 → RunsOn (row width mask value) low high (row width (r .first) (r .second))) ⌝ }
+{
+    match vector_calls::range(width, mask, value, low, high) {
+        RangeAnswer::Found(x) => FourNumbers {
+            refusal: DONE,
+            place: 0,
+            first: x.mask,
+            second: x.value,
+            third: x.smallest,
+            fourth: x.largest,
+        },
+        RangeAnswer::Refused(r) => no_numbers(r),
     }
 }

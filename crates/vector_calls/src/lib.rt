@@ -1,51 +1,34 @@
-// Calls on bare vectors, which stand in no table (02, requests 6 and 7): every refusal has place 0.
+// Calls on bare vectors, which stand in no table (02, requests 6, 7 and 8): every refusal has place 0.
 ghost use mathlib.Core.Path.{_≡_};
-ghost use Rattle.checks.specs.Check.{placed, done};
-ghost use Rattle.checks.specs.Model.{verdictModel, judged};
-ghost use Rattle.vector_calls.specs.Calls.{operandFaults, productBitChecks, productBitOf};
-ghost use Rattle.vector_calls.specs.Witnesses.{kindFaults, operationFaults, witnessChecks, Unsettles};
-ghost use Rattle.vector_calls.specs.Model.{bitModel, refusalIn, witnessModel};
+ghost use mathlib.Core.Logic.{_↔_};
+ghost use Rattle.vectors.specs.Row.{row};
 ghost use Rattle.witness_search.specs.declared.Pair.{Pair};
+ghost use Rattle.range_search.specs.declared.Range.{Range};
+ghost use Rattle.range_search.specs.Range.{Ranged};
+ghost use Rattle.checks.specs.Check.{done, refused};
+ghost use Rattle.checks.specs.Model.{judged};
+ghost use Rattle.vector_calls.specs.Calls.{productBitOf};
+ghost use Rattle.vector_calls.specs.Witnesses.{witnessChecks, Unsettles};
+ghost use Rattle.vector_calls.specs.Ranges.{rangeOf, Absent};
+ghost use Rattle.vector_calls.specs.RangeRuns.{RunsOn};
+ghost use Rattle.vector_calls.specs.Model.{bitModel, refusalIn, witnessModel, rangeModel};
 use checks::Refusal;
 use checks::Verdict;
-use checks::first_refusal;
 use checks::refusals;
-use checks::refuse;
-use checks::rows::check_bit;
-use checks::rows::check_vector;
-use checks::rows::check_width;
+use inputs::check_operation;
+use inputs::check_product_bit;
+use inputs::check_range;
 use products::product_bit_unchecked;
+use range_search::InRange;
+use range_search::Range;
+use range_search::in_range;
 use vectors::OutputBit;
 use witness_search::Operands;
 use witness_search::Pair;
-use witness_search::is_add_sub_mul;
 use witness_search::operation_bit;
 use witness_search::witness;
 
-// Checks 4 and 5 of two vectors of one width.
-fn check_operands(width: u32, ma: u32, va: u32, mb: u32, vb: u32) -> Verdict
-    ensures { λ r. ⌜ verdictModel r ≡ judged (placed 0 (operandFaults width ma va mb vb)) ⌝ }
-{
-    let found = check_width(width, 0);
-    match found {
-        Verdict::Refused(_) => {
-            return found;
-        }
-        Verdict::Passed => {}
-    }
-    let first = check_vector(width, ma, va, 0);
-    let second = check_vector(width, mb, vb, 0);
-    first_refusal(first, second)
-}
-
-// What product_bit refuses.
-fn check_product_bit(width: u32, ma: u32, va: u32, mb: u32, vb: u32, bit: u32) -> Verdict
-    ensures { λ r. ⌜ verdictModel r ≡ judged (productBitChecks width ma va mb vb bit) ⌝ }
-{
-    let operands = check_operands(width, ma, va, mb, vb);
-    let number = check_bit(width, bit, 0);
-    first_refusal(operands, number)
-}
+mod inputs; // inputs.rt: what the calls check first
 
 // One bit of a result, or a refusal.
 pub enum BitAnswer {
@@ -61,26 +44,6 @@ pub fn product_bit(width: u32, ma: u32, va: u32, mb: u32, vb: u32, bit: u32) -> 
         Verdict::Refused(r) => BitAnswer::Refused(r),
         Verdict::Passed => BitAnswer::Bit(product_bit_unchecked(ma, va, mb, vb, bit)),
     }
-}
-
-// Check 6: a kind other than add, sub and mul.
-fn check_kind(kind: u32) -> Verdict
-    ensures { λ r. ⌜ verdictModel r ≡ judged (placed 0 (kindFaults kind)) ⌝ }
-{
-    if is_add_sub_mul(kind) {
-        return Verdict::Passed;
-    }
-    refuse(refusals::KIND, 0)
-}
-
-// What witnesses refuses before it looks at the bit.
-fn check_operation(kind: u32, width: u32, ma: u32, va: u32, mb: u32, vb: u32, bit: u32) -> Verdict
-    ensures { λ r. ⌜ verdictModel r ≡ judged (placed 0 (operationFaults kind width ma va mb vb bit)) ⌝ }
-{
-    let operands = check_operands(width, ma, va, mb, vb);
-    let operation = check_kind(kind);
-    let bit_number = check_bit(width, bit, 0);
-    first_refusal(operands, first_refusal(operation, bit_number))
 }
 
 // Two pairs of operands, of which the first makes the bit 0 and the second 1, or a refusal.
@@ -124,4 +87,32 @@ pub fn witnesses(
     let zero = witness(kind, width, operands, bit, 0);
     let one = witness(kind, width, operands, bit, 1);
     WitnessAnswer::Pairs(zero, one)
+}
+
+// The best vector covering the numbers between two ends, with the smallest and the largest of them, or a refusal.
+pub enum RangeAnswer {
+    Found(Range),
+    Refused(Refusal),
+}
+
+// The best vector covering all numbers that lie between the ends, ends included, and that the vector covers, with the smallest and the largest of them.
+pub fn range(width: u32, mask: u32, value: u32, low: u64, high: u64) -> RangeAnswer
+    ensures answer { λ r. ⌜ rangeModel r ≡ rangeOf width mask value low high ⌝ }
+    ensures best { λ r. ⌜ ((x : Range) → rangeModel r ≡ done x → Ranged (row width mask value) low high x) ⌝ }
+    ensures empty { λ r. ⌜ (rangeModel r ≡ refused 18 0) ↔ Absent width mask value low high ⌝ }
+    ensures runs { λ r. ⌜ ((x : Range) → rangeModel r ≡ done x → RunsOn (row width mask value) low high (row width (x .mask) (x .value))) ⌝ }
+{
+    match check_range(width, mask, value, low, high) {
+        Verdict::Refused(r) => {
+            return RangeAnswer::Refused(r);
+        }
+        Verdict::Passed => {}
+    }
+    match in_range(width, mask, value, low as u32, high as u32) {
+        InRange::Found(x) => RangeAnswer::Found(x),
+        InRange::Empty => RangeAnswer::Refused(Refusal {
+            number: refusals::EMPTY,
+            place: 0,
+        }),
+    }
 }

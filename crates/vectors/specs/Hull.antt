@@ -16,7 +16,7 @@ pub record Shows (P : ℕ → Type 0) (k b : ℕ) : Type 0 where
   pub within : P shown
   pub shows : bit shown k ≡ b
 
--- X exactly where two numbers of P disagree, else what all of P have
+-- "the best vector covering all numbers" of P (02, request 8): X exactly where two numbers of P disagree, else what all of P have
 pub record Hull (w : ℕ) (P : ℕ → Type 0) (r : Row) : Type 0 where
   pub width-is : r .width ≡ w
   pub formed : WellFormed r

@@ -2,25 +2,21 @@
 use mathlib.Core.Path.{_≡_, sym, _∙_}
 use mathlib.Core.Logic.{_≢_, inl, inr}
 use Prim.Native.Nat.{ℕ, _/_, _^_}
-use lib.Bits.{bitAnd, and-mask}
+use lib.Bits.{bitAnd}
 use Rattle.bits.specs.Bit.{bit}
 use Rattle.bits.proofs.Bits.{bit-cases}
+use Rattle.bits.proofs.Words.{bit-word}
 use Rattle.vectors.specs.Row.{row}
 use Rattle.vectors.proofs.Told.{output-unknown, output-known}
 use borrow.Author.Needs.{needs}
 use Rattle.vectors.proofs.bit_of.Statement.{statement}
 use Rattle.vectors.proofs.bit_of.Tie as tie
 
--- a bit as the code takes it
-taken : (n k : ℕ) → bitAnd (n / 2 ^ k) 1 ≡ bit n k
-unfolding bit
-taken n k = and-mask (n / 2 ^ k) 1
-
 one : (n k : ℕ) → bitAnd (n / 2 ^ k) 1 ≡ 1 → bit n k ≡ 1
-one n k e = sym (taken n k) ∙ e
+one n k e = sym (bit-word n k) ∙ e
 
 zero : (n k : ℕ) → bitAnd (n / 2 ^ k) 1 ≢ 1 → bit n k ≡ 0
-zero n k d = elim (bit-cases n k) [ inl e ↦ e | inr e ↦ absurd (d (taken n k ∙ e)) ]
+zero n k d = elim (bit-cases n k) [ inl e ↦ e | inr e ↦ absurd (d (bit-word n k ∙ e)) ]
 
 returns : tie.Need-returns
 returns c w = let a = c .before .args in sym (output-unknown (row w (a .m) (a .v)) (a .k) (one (a .m) (a .k) (c .if1 .taken)))

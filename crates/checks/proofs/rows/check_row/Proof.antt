@@ -6,8 +6,8 @@ use Rattle.operations.specs.Record.{fault}
 use Rattle.checks.specs.Check.{Check, placed}
 use Rattle.checks.specs.Checks.{lockOver, widthFaults, vectorFaults, rowFaults}
 use Rattle.checks.specs.Model.{verdictModel, judged}
-use Rattle.checks.proofs.Verdicts.{hits, skips, passed-of-done}
-use Rattle.checks.proofs.RowChecks.{width-of-passed}
+use Rattle.checks.proofs.Verdicts.{hits, skips}
+use Rattle.checks.proofs.RowChecks.{width-of-clear}
 use Rattle.checks.proofs.VerdictParts.{goes-on, stops}
 use borrow.Author.Needs.{needs}
 use Rattle.checks.proofs.rows.check_row.Statement.{statement}
@@ -42,8 +42,7 @@ check-vector-requires c κs =
     let t = c .before in
     let f = t .before .before in
     let s = f .before in
-    let P = passed-of-done (width s) tt tt (sym (f .check-width .ensures) ∙ ap verdictModel (t .enum-told2 .given .1)) in
-    width-of-passed (s .args .w) (s .args .i) P
+    width-of-clear (s .args .w) (s .args .i) (f .check-width .result) (f .check-width .ensures) (t .enum-told2 .given .1)
 
 returns-3 : tie.Need-returns-3
 returns-3 c = c .check-vector .ensures ∙ sym (past-width (c .before .before) ∙ skips _ _ (le-ltb _ _ (c .before .if1 .left)))

@@ -1,0 +1,8 @@
+-- The laws and proofs of `range_search`.
+pub mod Extremes
+pub mod Parts
+pub mod Covered
+pub mod Differing
+pub mod Spans
+pub mod Answers
+pub mod Finding
