@@ -3,6 +3,7 @@ pub mod Bools
 pub mod Bits
 pub mod Below
 pub mod Shifts
+pub mod SameBits
 pub mod Constants
 pub mod Numbers
 pub mod Carries

@@ -12,10 +12,10 @@ use lib.Bits.{bitAnd, bitOr, differ}
 use Rattle.bits.specs.Bit.{bit}
 use Rattle.bits.proofs.Bits.{bit-lt, bit-and, bit-xor}
 use Rattle.bits.proofs.Shifts.{bit-mod}
+use Rattle.bits.proofs.SameBits.{differ-cases}
 use Rattle.bits.proofs.Words.{or-cases}
 use Rattle.vectors.specs.Row.{row}
 use Rattle.vectors.proofs.Rows.{covers-value, covers-part}
-use Rattle.vectors.proofs.Joins.{differ-cases}
 use Rattle.columns.specs.Formed.{Formed}
 use Rattle.columns.specs.Settled.{productOf, ColumnIs, Marks, AllUnknown}
 use Rattle.columns.specs.Choices.{Covered, difference, Witness}

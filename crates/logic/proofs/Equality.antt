@@ -5,22 +5,22 @@ use mathlib.Core.Path.{_≡_, sym, ap, ap₂, _∙_, subst}
 use mathlib.Core.Bool.{Bool, not}
 use mathlib.Core.Logic.{inl, inr}
 use mathlib.Core.List.{List, [], _∷_}
-use Prim.Native.Nat.{ℕ, _+_, _-_, _^_, _≤_, _<_, min, max}
-use native.Mathlib.Nat.{lt-of-lt-of-le, lt-of-le-of-lt, add-comm}
+use Prim.Native.Nat.{ℕ, _-_, _^_, _≤_, _<_, min, max}
+use native.Mathlib.Nat.{lt-of-lt-of-le, lt-of-le-of-lt}
 use native.Mathlib.Decide.{ℕ-discrete}
 use native.Mathlib.Omega.{arith}
 use lib.Dec.{T, eqb, eqb→eq, eqb-refl, T-not, not-T}
 use lib.ListN.{getD}
 use lib.Pow.{pow-pos, pow-mono}
-use lib.Bits.{bitAnd, bitOr, bitXor, differ, and-le-l, or-lt, or-comm, xor-lt, or-disjoint, xor-self}
+use lib.Bits.{bitAnd, bitOr, bitXor, differ, and-le-l, or-lt, or-comm, xor-lt, xor-self}
 use Rattle.bits.specs.Bit.{bit, digit}
 use Rattle.bits.proofs.Bools.{eq→eqb}
 use Rattle.bits.proofs.Bits.{bit-lt, bit-cases, bit-or, bit-xor, bit-ext, bit-of-zero}
+use Rattle.bits.proofs.SameBits.{differ-cases}
 use Rattle.vectors.specs.Row.{row, WellFormed, Covers}
 use Rattle.vectors.specs.Choice.{Chosen}
 use Rattle.vectors.specs.Best.{best}
-use Rattle.vectors.proofs.Rows.{covers-value, covers-top, and-of-apart}
-use Rattle.vectors.proofs.Joins.{differ-cases}
+use Rattle.vectors.proofs.Rows.{covers-value, covers-top, top-sum}
 use Rattle.vectors.proofs.BestLaws.{known-covers}
 use Rattle.bits.proofs.Words.{bit-clear, or-zero, xor-zero}
 use Rattle.vectors.proofs.Operands.{chosen-at}
@@ -46,10 +46,6 @@ meets w m v m′ v′ F G same =
         | inr z ↦ let d = G .apart k z in omega arith
       ];
     }
-
--- the greatest number that a row covers, as a sum
-top-sum : (w m v : ℕ) → WellFormed (row w m v) → bitOr v m ≡ v + m
-top-sum w m v F = or-comm v m ∙ or-disjoint m v (and-of-apart w m v (F .mask-below) (F .value-below) (F .apart)) ∙ add-comm m v
 
 module _ (w n ma va mb vb : ℕ) (i : w ≤ n) (A : WellFormed (row w ma va)) (B : WellFormed (row w mb vb)) where
   clash-bit : (k : ℕ) → k < w → bit (clash n ma va mb vb) k ≡ min (differ (bit va k) (bit vb k)) (1 - max (bit ma k) (bit mb k))
@@ -110,8 +106,8 @@ module _ (w n ma va mb vb : ℕ) (i : w ≤ n) (A : WellFormed (row w ma va)) (B
       some z =
           let x = covers-value (row w ma va) A in
           let y = covers-value (row w mb vb) B in
-          let s = top-sum w ma va A in
-          let r = top-sum w mb vb B in
+          let s = top-sum (row w ma va) A in
+          let r = top-sum (row w mb vb) B in
           elim (ℕ-discrete va vb) [
             | no d ↦ (va ∷ vb ∷ [], (x, (y, tt)), differs va vb d)
             | yes e ↦ elim (ℕ-discrete ma 0) [

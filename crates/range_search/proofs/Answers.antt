@@ -1,8 +1,8 @@
 -- What rangeIn gives is the best vector, the smallest and the largest, and no other answer is; empty is said exactly where there is no such number. Assumes nothing.
-use mathlib.Core.Path.{_≡_, refl, sym, ap, _∙_}
+use mathlib.Core.Path.{_≡_, refl, ap, _∙_}
 use mathlib.Core.Bool.{Bool, true, false, not, cond}
 use mathlib.Core.Logic.{_↔_}
-use Prim.Native.Nat.{ℕ, _^_, _≤_, _<_}
+use Prim.Native.Nat.{ℕ, _^_}
 use native.Mathlib.Omega.{arith}
 use lib.Dec.{T, T-not, not-T, leb, leb→le, le→leb}
 use Rattle.bits.specs.Below.{someBelow}
@@ -11,14 +11,12 @@ use Rattle.bits.proofs.Bools.{T-and, T-left, T-right, T-not-not}
 use Rattle.vectors.specs.Row.{Row, row}
 use Rattle.vectors.specs.Choice.{coversb}
 use Rattle.vectors.specs.Best.{bestOf}
-use Rattle.vectors.specs.Hull.{Hull}
 use Rattle.vectors.proofs.Choices.{covers-of-test, test-of-covers}
 use Rattle.vectors.proofs.Hulls.{Inhabited, hull-unique}
 use Rattle.vectors.proofs.Bests.{bestOf-hull}
 use Rattle.range_search.specs.declared.Range.{Range}
 use Rattle.range_search.specs.declared.InRange.{InRange}
 use Rattle.range_search.specs.declared.InRange.the-variants.{Found, Empty}
-use Rattle.range_search.specs.Extremes.{Least, Greatest}
 use Rattle.range_search.specs.Range.{Between, betweenb, noneBetween, rangeIn, inRangeOf, Ranged}
 use Rattle.range_search.proofs.Extremes.{Passing, smallest-below, largest-below}
 

@@ -1,48 +1,32 @@
 -- A covered number is the value and a part of the mask, or value and mask less a part of it: the smallest one from an end on, and the largest one up to an end. Assumes nothing.
-use mathlib.Core.Path.{_≡_, sym, ap, _∙_, subst}
+use mathlib.Core.Path.{_≡_, _∙_, subst}
 use mathlib.Core.Logic.{inl, inr}
-use Prim.Native.Nat.{ℕ, _+_, _-_, _*_, _^_, _≤_, _<_}
-use native.Mathlib.Nat.{le-refl}
+use Prim.Native.Nat.{ℕ, _+_, _-_, _≤_}
 use native.Mathlib.Omega.{arith}
-use lib.Bits.{bitAnd, bitOr, bitXor, and-comm, and-lt, or-disjoint, xor-add-and}
+use lib.Bits.{bitAnd, bitXor, and-lt, xor-add-and}
 use Rattle.bits.specs.Bit.{bit}
-use Rattle.bits.proofs.Bits.{bit-lt, bit-above, bit-ext, bit-and, bit-xor}
-use Rattle.bits.proofs.Numbers.{below-of-bits}
+use Rattle.bits.proofs.Bits.{bit-lt, bit-ext, bit-and, bit-xor}
+use Rattle.bits.proofs.SameBits.{differ-cases}
 use Rattle.vectors.specs.Row.{Row, WellFormed, Covers}
-use Rattle.vectors.proofs.Rows.{top, covers-part, covered-part, and-of-apart}
-use Rattle.vectors.proofs.Joins.{differ-cases}
+use Rattle.vectors.proofs.Rows.{top, Part, part-below, covers-part, covered-part, part-sum, top-sum}
 use Rattle.range_search.specs.Extremes.{Least, Greatest}
 use Rattle.range_search.specs.Encoding.{PartUpTo}
 
 module _ (r : Row) (F : WellFormed r) where
-  abbrev Part : ℕ → Type 0
-  Part s = (k : ℕ) → bit s k ≤ bit (r .mask) k
-
-  part-below : (s : ℕ) → Part s → s < 2 ^ r .width
-  part-below s P = below-of-bits (r .width) s (λ k l. let z = bit-above (r .width) (r .mask) k (F .mask-below) l in let i = P k in omega arith)
-
   -- ---- the value and a part
 
-  joined : (s : ℕ) → Part s → bitOr (r .value) s ≡ r .value + s
-  joined s P =
-      or-disjoint (r .value) s (and-comm (r .value) s
-      ∙ and-of-apart (r .width) s (r .value) (part-below s P) (F .value-below) (λ k e. F .apart k (let i = P k in let l = bit-lt (r .mask) k in omega arith)))
+  sum-covers : (s : ℕ) → Part r s → Covers r (r .value + s)
+  sum-covers s P = subst (Covers r) (part-sum r s F P) (covers-part r s F P)
 
-  sum-covers : (s : ℕ) → Part s → Covers r (r .value + s)
-  sum-covers s P = subst (Covers r) (joined s P) (covers-part r s F P)
-
-  common : (n : ℕ) → Part (bitAnd n (r .mask))
+  common : (n : ℕ) → Part r (bitAnd n (r .mask))
   common n k = let e = bit-and n (r .mask) k in omega arith
 
   as-sum : (n : ℕ) → Covers r n → n ≡ r .value + bitAnd n (r .mask)
-  as-sum n C = covered-part r n F C ∙ joined (bitAnd n (r .mask)) (common n)
+  as-sum n C = covered-part r n F C ∙ part-sum r (bitAnd n (r .mask)) F (common n)
 
   -- ---- value and mask less a part
 
-  whole : top r ≡ r .value + r .mask
-  whole = joined (r .mask) (λ k. le-refl (bit (r .mask) k))
-
-  others : (s : ℕ) → Part s → Part (bitXor (r .mask) s)
+  others : (s : ℕ) → Part r s → Part r (bitXor (r .mask) s)
   others s P k =
       let e = bit-xor (r .mask) s k in
       elim (differ-cases (bit (r .mask) k) (bit s k) (bit-lt (r .mask) k) (bit-lt s k)) [
@@ -50,17 +34,17 @@ module _ (r : Row) (F : WellFormed r) where
         | inr c ↦ (let z = c .0 in let y = c .1 in let i = P k in omega arith)
       ]
 
-  others-sum : (s : ℕ) → Part s → bitXor (r .mask) s + s ≡ r .mask
+  others-sum : (s : ℕ) → Part r s → bitXor (r .mask) s + s ≡ r .mask
   others-sum s P = let x = xor-add-and (r .mask) s in let y = inside in omega arith
     where
       inside : bitAnd (r .mask) s ≡ s
       inside =
-          bit-ext (r .width) (bitAnd (r .mask) s) s (and-lt (r .width) (r .mask) s (F .mask-below) (part-below s P)) (part-below s P)
+          bit-ext (r .width) (bitAnd (r .mask) s) s (and-lt (r .width) (r .mask) s (F .mask-below) (part-below r s F P)) (part-below r s F P)
           (λ k l. bit-and (r .mask) s k ∙ (let i = P k in omega arith))
 
-  less-covers : (s : ℕ) → Part s → Covers r (top r - s)
+  less-covers : (s : ℕ) → Part r s → Covers r (top r - s)
   less-covers s P =
-      let w = whole in
+      let w = top-sum r F in
       let o = others-sum s P in
       let e : r .value + bitXor (r .mask) s ≡ top r - s = omega arith in
       subst (Covers r) e (sum-covers (bitXor (r .mask) s) (others s P))
@@ -74,7 +58,7 @@ module _ (r : Row) (F : WellFormed r) where
         is-in = (less-covers s (G .is-in .part), omega arith);
         least = λ n N.
             let l = N .1 in
-            let w = whole in
+            let w = top-sum r F in
             let e = as-sum n (N .0) in
             let o = others-sum (bitAnd n (r .mask)) (common n) in
             let g = G .greatest (bitXor (r .mask) (bitAnd n (r .mask))) (record { part = others (bitAnd n (r .mask)) (common n); up-to = omega arith }) in

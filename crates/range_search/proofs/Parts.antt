@@ -13,7 +13,7 @@ use lib.Dec.{leb}
 use lib.Pow.{pow-pos}
 use Rattle.bits.specs.Bit.{bit}
 use Rattle.bits.proofs.Bits.{bit-lt, bit-cases, bit-above, bit-of-zero}
-use Rattle.bits.proofs.Shifts.{bit-low, bit-high, bit-mod, bit-mod-above, top-split, top-one, top-zero}
+use Rattle.bits.proofs.Shifts.{bit-low, bit-high, bit-mod, bit-mod-above, top-split, top-zero}
 use Rattle.bits.proofs.Numbers.{below-of-bits}
 use Rattle.range_search.specs.Extremes.{Greatest}
 use Rattle.range_search.specs.Encoding.{PartUpTo, taken}

@@ -1,58 +1,26 @@
 -- The best vector for the covered numbers between two ends, from the smallest and the largest of them. Assumes nothing.
---   splice e a b       the bits of a from e on, and those of b below
 --   Ends r low high a b e   a is the smallest and b the largest number between the ends; they are the same from bit e on, and differ just below it
-use mathlib.Core.Path.{_≡_, refl, sym, ap, _∙_, subst}
-use Prim.Native.Nat.{ℕ, zero, suc, _+_, _-_, _*_, _/_, _%_, _^_, _≤_, _<_, min}
-use native.Mathlib.Nat.{mod-lt, suc-mul, lt-of-lt-of-le}
+use mathlib.Core.Path.{_≡_, refl, sym, ap, _∙_}
+use Prim.Native.Nat.{ℕ, zero, suc, _+_, _-_, _*_, _/_, _^_, _≤_, _<_, min}
+use native.Mathlib.Nat.{suc-mul, lt-of-lt-of-le}
 use native.Mathlib.Decide.{decLt, ℕ-discrete}
 use native.Mathlib.Omega.{arith}
-use lib.Pow.{pow-pos, pow-mono, shr-mono, split, high as high-part}
-use lib.Bits.{bitAnd}
+use lib.Pow.{pow-mono, split}
+use lib.Bits.{bitXor}
 use Rattle.bits.specs.Bit.{bit}
 use Rattle.bits.proofs.Bits.{bit-lt, bit-above, bit-or, bit-and}
-use Rattle.bits.proofs.Shifts.{bit-div, bit-low, bit-high, bit-mod, bit-mod-above}
+use Rattle.bits.proofs.Shifts.{bit-mod, bit-mod-above}
+use Rattle.bits.proofs.SameBits.{same-quotient, same-from}
 use Rattle.bits.proofs.Numbers.{below-of-bits}
 use Rattle.bits.proofs.Words.{low-le, bit-clear}
-use Rattle.vectors.specs.Row.{Row, row, WellFormed, Covers}
+use Rattle.vectors.specs.Row.{Row, row, WellFormed}
 use Rattle.vectors.specs.Hull.{Shows, Hull}
 use Rattle.vectors.proofs.Rows.{covers-value, top, covers-top, between}
 use Rattle.range_search.specs.Extremes.{Least, Greatest}
 use Rattle.range_search.specs.Range.{Between}
 use Rattle.range_search.specs.Encoding.{differing, spanned}
-use Rattle.range_search.proofs.Differing.{half-shift, same-quotient, few, differ-at}
-
--- ---- two numbers spliced
-
-abbrev splice : ℕ → ℕ → ℕ → ℕ
-splice e a b = a / 2 ^ e * 2 ^ e + b % 2 ^ e
-
-mod-below : (e n : ℕ) → n % 2 ^ e < 2 ^ e
-mod-below e n = mod-lt n (pow-pos e)
-
-splice-under : (e a b k : ℕ) → k < e → bit (splice e a b) k ≡ bit b k
-splice-under e a b k h = bit-low (a / 2 ^ e) e (b % 2 ^ e) k h ∙ bit-mod b e k h
-
--- numbers with the same quotient have the same bits from e on
-same-above : (e a b : ℕ) → a / 2 ^ e ≡ b / 2 ^ e → (k : ℕ) → e ≤ k → bit a k ≡ bit b k
-same-above e a b p k h =
-    let s : (k - e) + e ≡ k = omega arith in
-    subst (λ (x : ℕ). bit a x ≡ bit b x) s (sym (bit-div a e (k - e)) ∙ ap (λ (x : ℕ). bit x (k - e)) p ∙ bit-div b e (k - e))
-
-splice-above : (e a b k : ℕ) → e ≤ k → bit (splice e a b) k ≡ bit a k
-splice-above e a b k h = same-above e (splice e a b) a (high-part (a / 2 ^ e) e (mod-below e b)) k h
-
-splice-covers : (r : Row) (e a b : ℕ) → Covers r a → Covers r b → Covers r (splice e a b)
-splice-covers r e a b A B =
-    record {
-      below = below-of-bits (r .width) (splice e a b) (λ k h. elim (decLt k e) [
-        | yes u ↦ splice-under e a b k u ∙ bit-above (r .width) b k (B .below) h
-        | no u ↦ splice-above e a b k (omega arith) ∙ bit-above (r .width) a k (A .below) h
-      ]);
-      agrees = λ k l z. elim (decLt k e) [
-        | yes u ↦ splice-under e a b k u ∙ B .agrees k l z
-        | no u ↦ splice-above e a b k (omega arith) ∙ A .agrees k l z
-      ];
-    }
+use Rattle.range_search.proofs.Differing.{half-shift, length-is, few, differ-at}
+use Rattle.range_search.proofs.Splices.{splice, mod-below, splice-under, splice-covers}
 
 -- ---- what each bit shows
 
@@ -136,14 +104,23 @@ module _ (r : Row) (F : WellFormed r) (low high a b : ℕ) where
     word : (n : ℕ) → Between r low high n → n < 2 ^ 32
     word n N = lt-of-lt-of-le (N .covered .below) (pow-mono wide)
 
+    word-a : a < 2 ^ 32
+    word-a = word a (L .is-in)
+
+    word-b : b < 2 ^ 32
+    word-b = word b (G .is-in)
+
+    apart-below : bitXor a b < 2 ^ e
+    apart-below = length-is 32 a b e word-a word-b refl .0
+
     ends : Ends r low high a b e
     ends =
         record {
           smallest-is = L;
           largest-is = G;
-          narrow = few 32 a b e (word a (L .is-in)) (word b (G .is-in)) refl (r .width) (L .is-in .covered .below) (G .is-in .covered .below);
-          same = same-quotient 32 a b e (word a (L .is-in)) (word b (G .is-in)) refl;
-          differ = differ-at 32 a b e (word a (L .is-in)) (word b (G .is-in)) refl (G .greatest a (L .is-in));
+          narrow = few 32 a b e word-a word-b refl (r .width) (L .is-in .covered .below) (G .is-in .covered .below);
+          same = same-quotient 32 a b e word-a word-b apart-below;
+          differ = differ-at 32 a b e word-a word-b refl (G .greatest a (L .is-in));
         }
 
     abbrev mask : ℕ
@@ -181,10 +158,6 @@ module _ (r : Row) (F : WellFormed r) (low high a b : ℕ) where
               let v : bit a k ≡ bit value k = omega arith in
               elim (decLt k e) [
                 | yes l ↦ let u = sym (bit-mod (r .mask) e k l) ∙ z in N .covered .agrees k h u ∙ sym (L .is-in .covered .agrees k h u) ∙ v
-                | no l ↦
-                    let p = shr-mono {a = a} {b = n} e (L .least n N) in
-                    let q = shr-mono {a = n} {b = b} e (G .greatest n N) in
-                    let s = ends .same in
-                    same-above e n a (omega arith) k (omega arith) ∙ v
+                | no l ↦ same-from 32 a b e word-a word-b apart-below n k (L .least n N) (G .greatest n N) (omega arith) ∙ v
               ];
         }

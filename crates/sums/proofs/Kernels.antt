@@ -12,12 +12,12 @@ use lib.Bits.{bitAnd, bitOr, bitXor, differ, and-le-r}
 use Rattle.bits.specs.Bit.{bit}
 use Rattle.bits.proofs.Bits.{bit-lt, bit-cases, bit-above, bit-and, bit-or, bit-xor}
 use Rattle.bits.proofs.Shifts.{bit-mod, bit-same-low}
+use Rattle.bits.proofs.SameBits.{differ-cases}
 use Rattle.bits.proofs.Constants.{bit-complement}
 use Rattle.vectors.specs.Row.{Row, row}
 use Rattle.vectors.specs.Choice.{Chosen}
 use Rattle.vectors.specs.Best.{best}
 use Rattle.vectors.proofs.Rows.{top}
-use Rattle.vectors.proofs.Joins.{differ-cases}
 use Rattle.vectors.proofs.Bests.{Gives, best-from-bits}
 use Rattle.sums.proofs.Sums.{AsSum, values, tops, sum-bit, settled, same-floor, gives-both, unknown-term}
 

@@ -4,24 +4,24 @@
 use mathlib.Core.Path.{_≡_, refl, sym, ap, _∙_, subst}
 use mathlib.Core.Bool.{Bool, true, false, not, cond}
 use mathlib.Core.Logic.{_↔_}
-use mathlib.Core.List.{List, [], _∷_, _++_}
+use mathlib.Core.List.{List, _++_}
 use Prim.Native.Nat.{ℕ, _^_, _≤_, _<_}
 use native.Mathlib.Decide.{decLt}
 use native.Mathlib.Omega.{arith}
 use borrow.Author.Tests.{lt-ltb, le-ltb, le-leb, lt-leb}
-use lib.Dec.{T, not-T, eqb, nltb→le, nleb→lt}
+use lib.Dec.{T, eqb, nltb→le, nleb→lt}
 use Rattle.bits.specs.Limits.{widthLimit}
 use Rattle.vectors.specs.Row.{row, WellFormed}
 use Rattle.range_search.specs.declared.Range.{Range}
 use Rattle.range_search.specs.declared.InRange.{InRange}
 use Rattle.range_search.specs.declared.InRange.the-variants.{Found, Empty}
-use Rattle.range_search.specs.Range.{Between, noneBetween, rangeIn, inRangeOf, Ranged}
+use Rattle.range_search.specs.Range.{noneBetween, rangeIn, inRangeOf, Ranged}
 use Rattle.range_search.proofs.Answers.{none-iff, some-between, ranged}
 use Rattle.checks.specs.Check.{Answer, done, refused, Check, verdict, placed, Passed}
 use Rattle.checks.specs.Checks.{widthFaults, vectorFaults}
 use Rattle.checks.specs.Model.{judged}
-use Rattle.checks.proofs.Verdicts.{hits, skips, clears, passed-left, passed-right, passed-append, done-of-passed, passed-of-done, verdict-passed, verdict-refused, number-of, done-same, not-done}
-use Rattle.checks.proofs.Numbered.{numbered, refused-number}
+use Rattle.checks.proofs.Verdicts.{passed-left, passed-right, done-of-passed, passed-of-done, verdict-passed, verdict-refused, number-of, done-same, not-done}
+use Rattle.checks.proofs.Numbered.{refused-number}
 use Rattle.checks.proofs.RowChecks.{width-of-passed, vector-of-passed}
 use Rattle.vector_calls.specs.Ranges.{endFaults, inputFaults, emptyFaults, rangeChecks, rangeOf, Absent}
 use Rattle.vector_calls.specs.RangeRuns.{RunsOn}

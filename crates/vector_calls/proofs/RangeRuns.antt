@@ -1,5 +1,5 @@
 -- Runs from a start row that is narrowed to a range. Assumes nothing.
-use mathlib.Core.Path.{_≡_, sym, ap, subst, subst₂}
+use mathlib.Core.Path.{sym, ap, subst, subst₂}
 use mathlib.Core.List.{List}
 use Prim.Native.Nat.{ℕ, _≤_, _<_}
 use native.Mathlib.Nat.{le-refl}

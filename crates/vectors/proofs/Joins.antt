@@ -1,23 +1,15 @@
 -- The join of two vectors is the best vector for a union. Assumes nothing.
-use mathlib.Core.Path.{_≡_, refl, sym, ap₂, _∙_}
+use mathlib.Core.Path.{_≡_, sym, ap₂, _∙_}
 use mathlib.Core.Logic.{_⊎_, inl, inr}
-use Prim.Native.Nat.{ℕ, zero, suc, _+_, _<_, max}
+use Prim.Native.Nat.{ℕ, _<_, max}
 use native.Mathlib.Omega.{arith}
 use lib.Bits.{bitOr, bitXor, differ, and-lt, or-lt, xor-lt}
 use Rattle.bits.specs.Bit.{bit}
 use Rattle.bits.proofs.Bits.{bit-lt, bit-cases, bit-and, bit-or, bit-xor}
+use Rattle.bits.proofs.SameBits.{differ-cases}
 use Rattle.vectors.specs.Row.{Row, WellFormed}
 use Rattle.vectors.specs.Hull.{Shows, Hull, join}
 use Rattle.vectors.proofs.Hulls.{Inhabited, shows-imp}
-
-pub differ-cases : (x y : ℕ) → x < 2 → y < 2 → ((x ≡ y) × (differ x y ≡ 0)) ⊎ ((x + y ≡ 1) × (differ x y ≡ 1))
-differ-cases zero zero p q = inl (refl, refl)
-differ-cases zero (suc zero) p q = inr (omega arith, refl)
-differ-cases zero (suc (suc y)) p q = absurd (omega arith)
-differ-cases (suc zero) zero p q = inr (omega arith, refl)
-differ-cases (suc zero) (suc zero) p q = inl (refl, omega arith)
-differ-cases (suc zero) (suc (suc y)) p q = absurd (omega arith)
-differ-cases (suc (suc x)) y p q = absurd (omega arith)
 
 module _ (p q : Row) where
   pub join-mask : (k : ℕ) → bit (join p q .mask) k ≡ max (max (bit (p .mask) k) (bit (q .mask) k)) (differ (bit (p .value) k) (bit (q .value) k))

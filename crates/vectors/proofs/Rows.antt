@@ -1,10 +1,11 @@
 -- What a row covers: its value, with some unknown bits set or all of them, and numbers with a given bit. Assumes nothing.
+--   Part r s   the set bits of s are unknown bits of r
 use mathlib.Core.Path.{_≡_, refl, sym, ap, _∙_}
 use mathlib.Core.Logic.{_⊎_, inl, inr}
-use Prim.Native.Nat.{ℕ, zero, suc, _^_, _≤_, _<_, min, max}
+use Prim.Native.Nat.{ℕ, zero, suc, _+_, _^_, _≤_, _<_, min, max}
 use native.Mathlib.Nat.{le-refl, lt-of-le-of-lt}
 use native.Mathlib.Omega.{arith}
-use lib.Bits.{bitAnd, bitOr, and-lt, and-le-r, or-lt}
+use lib.Bits.{bitAnd, bitOr, and-comm, and-lt, and-le-r, or-lt, or-disjoint}
 use Rattle.bits.specs.Bit.{bit}
 use Rattle.bits.proofs.Bits.{bit-lt, bit-cases, bit-and, bit-or, bit-above, bit-ext, bit-of-zero}
 use Rattle.bits.proofs.Numbers.{below-of-bits}
@@ -19,12 +20,17 @@ covers-value r F = record { below = F .value-below; agrees = λ k h e. refl }
 abbrev pub top : Row → ℕ
 top r = bitOr (r .value) (r .mask)
 
+abbrev pub Part : Row → ℕ → Type 0
+Part r s = (k : ℕ) → bit s k ≤ bit (r .mask) k
+
+pub part-below : (r : Row) (s : ℕ) → WellFormed r → Part r s → s < 2 ^ r .width
+part-below r s F h = below-of-bits (r .width) s (λ k l. let z = bit-above (r .width) (r .mask) k (F .mask-below) l in let y = h k in omega arith)
+
 -- the value with some unknown bits set
-pub covers-part : (r : Row) (s : ℕ) → WellFormed r → ((k : ℕ) → bit s k ≤ bit (r .mask) k) → Covers r (bitOr (r .value) s)
+pub covers-part : (r : Row) (s : ℕ) → WellFormed r → Part r s → Covers r (bitOr (r .value) s)
 covers-part r s F h =
     record {
-      below = or-lt (r .width) (r .value) s (F .value-below)
-          (below-of-bits (r .width) s (λ k l. let z = bit-above (r .width) (r .mask) k (F .mask-below) l in let y = h k in omega arith));
+      below = or-lt (r .width) (r .value) s (F .value-below) (part-below r s F h);
       agrees = λ k l e. bit-or (r .value) s k ∙ (let y = h k in omega arith);
     }
 
@@ -77,3 +83,13 @@ and-of-apart w m v hm hv h = bit-ext w (bitAnd m v) 0 (and-lt w m v hm hv) (omeg
   where
     at : (k : ℕ) → min (bit m k) (bit v k) ≡ 0
     at k = elim (bit-cases m k) [ inl e ↦ omega arith | inr e ↦ let z = h k e in omega arith ]
+
+-- ---- unknown bits that are set are added to the value
+
+pub part-sum : (r : Row) (s : ℕ) → WellFormed r → Part r s → bitOr (r .value) s ≡ r .value + s
+part-sum r s F h =
+    or-disjoint (r .value) s (and-comm (r .value) s
+    ∙ and-of-apart (r .width) s (r .value) (part-below r s F h) (F .value-below) (λ k e. F .apart k (let i = h k in let l = bit-lt (r .mask) k in omega arith)))
+
+pub top-sum : (r : Row) → WellFormed r → top r ≡ r .value + r .mask
+top-sum r F = part-sum r (r .mask) F (λ k. le-refl (bit (r .mask) k))

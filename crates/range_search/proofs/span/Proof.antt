@@ -4,7 +4,7 @@ use Prim.Native.Nat.{ℕ, _-_, _*_, _%_, _^_, _≤_, _<_}
 use native.Mathlib.Omega.{arith}
 use borrow.Author.Needs.{needs}
 use lib.Pow.{pow-pos, pow-mono}
-use lib.Bits.{bitAnd, bitXor, and-mask}
+use lib.Bits.{bitAnd, and-mask}
 use lib.Count.{leading-le}
 use Rattle.bits.proofs.Words.{shifted-one}
 use Rattle.vectors.specs.declared.Vector.{Vector}
@@ -20,7 +20,7 @@ power : (n : ℕ) → n ≤ 32 → 1 * 2 ^ n % 2 ^ 64 ≡ 2 ^ n
 power n h = shifted-one 64 n (omega arith)
 
 sub-n : tie.Need-sub-n
-sub-n c = leading-le 32 (bitXor (c .args .a) (c .args .b))
+sub-n c = leading-le 32 _
 
 sub-mask : tie.Need-sub-mask
 sub-mask c = let n = differing (c .args .a) (c .args .b) in let e = power n (few c) in let p = pow-pos n in omega arith
