@@ -1,4 +1,4 @@
--- The smallest and the largest number of a set.
+-- The smallest and the largest number of a set (02, request 8: "with the smallest and the largest of them").
 --   Least P n, Greatest P n   n is of the set P, and no number of it is smaller, or larger
 --   smallestBelow n p         the smallest number below n that passes the test p, where one does;   largestBelow n p   the largest
 use mathlib.Core.Bool.{Bool, cond}
