@@ -58,13 +58,13 @@ inline unsigned passes_for_timing(const Pass &pass)
 
 // For each contestant the least time of one pass, in nanoseconds: other work on the machine only ever adds to a time. They take
 // turns, so that a drift of the machine hits all.
-inline std::vector<double> measure(const std::vector<Pass> &contestants)
+inline std::vector<double> measure(const std::vector<Pass> &contestants, int repetitions = REPETITIONS)
 {
     std::vector<unsigned> passes;
     for (const Pass &pass : contestants)
         passes.push_back(passes_for_timing(pass));
     std::vector<double> least(contestants.size(), std::numeric_limits<double>::infinity());
-    for (int r = 0; r < REPETITIONS; r++)
+    for (int r = 0; r < repetitions; r++)
         for (std::size_t c = 0; c < contestants.size(); c++)
             least[c] = std::min(least[c], time_of(contestants[c], passes[c]) / passes[c]);
     return least;

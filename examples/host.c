@@ -46,13 +46,17 @@ static int load(const char *bytes)
     return 1;
 }
 
+static void print(void)
+{
+    rifflerleek_answer a = rifflerleek_write(width, rows, lock, rows, mask, rows, value, rows, words, WORDS * records, out, sizeof out);
+    fwrite(out, 1, a.result, stdout);
+}
+
 static void run(void)
 {
     rifflerleek_answer a = rifflerleek_run(width, rows, lock, rows, mask, rows, value, rows, words, WORDS * records, 0, records);
-    if (refused("run", a.refusal, a.place)) // the rows are as they were
-        return;
-    a = rifflerleek_write(width, rows, lock, rows, mask, rows, value, rows, words, WORDS * records, out, sizeof out);
-    fwrite(out, 1, a.result, stdout);
+    if (!refused("run", a.refusal, a.place)) // else the rows are as they were
+        print();
 }
 
 static void count(size_t row)
@@ -91,6 +95,23 @@ static void fader(void)
         printf("XXXXXXX0 between 37 and 47: mask %02x, value %02x, smallest %u, largest %u\n", n.first, n.second, n.third, n.fourth);
 }
 
+static const char reset[] = "row\topen\t00010000\n"   // 0: base, at reset
+                            "row\topen\t00000001\n"   // 1: index, at reset
+                            "row\tlocked\t00000100\n" // 2: stride, a constant
+                            "row\topen\t00000000\n"   // 3: address
+                            "op\tmul\t3\t1\t2\t0\n"
+                            "op\tadd\t3\t0\t3\t0\n";
+
+// Which resets of base and index the top bit of the address needs: the others become X.
+static void resets(void)
+{
+    rifflerleek_answer a = rifflerleek_reset_bits(width, rows, lock, rows, mask, rows, value, rows, words, WORDS * records, 3, 7);
+    if (refused("reset_bits", a.refusal, a.place))
+        return;
+    printf("bit 7 of row 3 is %zu by these start bits:\n", a.result);
+    print();
+}
+
 int main(void)
 {
     if (!load(text))
@@ -112,5 +133,9 @@ int main(void)
     product(); // 3 or 9
     explain(); // 3 or 5
     fader();   // 0010XXX0
+
+    if (!load(reset))
+        return 1;
+    resets(); // 00XXXXXX and XX00XXXX: four resets of sixteen
     return 0;
 }

@@ -2,6 +2,9 @@
 //   rustc --edition 2021 -L target/staticlib examples/host.rs
 
 mod rifflerleek; // rifflerleek.rs: the calls and constants
+mod vectors; // vectors.rs: the calls on vectors that stand in no table
+
+use vectors::Bare;
 
 struct Refusal {
     number: u32,
@@ -65,6 +68,12 @@ impl Table {
         call!(rifflerleek_count, self, row)
     }
 
+    // The value of a bit after a run of all records; the rows become the start rows that it rests on.
+    fn reset_bits(&mut self, row: usize, bit: u32) -> Result<usize, Refusal> {
+        let (words, length) = (self.words.as_ptr(), self.words.len());
+        Ok(call!(rifflerleek_reset_bits, self, words, length, row, bit)?.0)
+    }
+
     fn text(&mut self) -> Result<String, Refusal> {
         let (words, length) = (self.words.as_ptr(), self.words.len());
         let mut out = vec![0; call!(rifflerleek_size, self, words, length)?.0];
@@ -77,33 +86,6 @@ impl Table {
 fn field(text: &str, line: usize, field: usize) -> &str {
     let a = unsafe { rifflerleek::rifflerleek_field(text.as_ptr(), text.len(), line, field) };
     &text[a.result..a.second_result as usize]
-}
-
-/// A vector that stands in no table.
-struct Bare {
-    mask: u32,
-    value: u32,
-}
-
-/// The bits of a product, as letters, the highest first.
-fn product(width: u32, a: &Bare, b: &Bare) -> Result<String, Refusal> {
-    let letter = |bit| {
-        let (number, _) = result(unsafe { rifflerleek::rifflerleek_product_bit(width, a.mask, a.value, b.mask, b.value, bit) })?;
-        Ok(if number == rifflerleek::UNKNOWN_BIT { 'X' } else if number == 1 { '1' } else { '0' })
-    };
-    (0..width).rev().map(letter).collect()
-}
-
-/// Two pairs of numbers: the first pair's sum has 0 at the bit, the second's has 1.
-fn explain(width: u32, a: &Bare, b: &Bare, bit: u32) -> Result<[(u32, u32); 2], Refusal> {
-    let n = unsafe { rifflerleek::rifflerleek_witnesses(rifflerleek::KIND_ADD, width, a.mask, a.value, b.mask, b.value, bit) };
-    given(n.refusal, n.place, [(n.first, n.second), (n.third, n.fourth)])
-}
-
-/// Of the numbers from low to high that the vector covers: the best vector, the smallest and the largest.
-fn range(width: u32, v: &Bare, low: u64, high: u64) -> Result<(Bare, u32, u32), Refusal> {
-    let n = unsafe { rifflerleek::rifflerleek_range(width, v.mask, v.value, low, high) };
-    given(n.refusal, n.place, (Bare { mask: n.first, value: n.second }, n.third, n.fourth))
 }
 
 const TEXT: &str = "row\tlocked\t0000XXXX
@@ -137,12 +119,28 @@ fn evaluate() -> Result<(), Refusal> {
 
 // Calls on vectors that stand in no table.
 fn ask() -> Result<(), Refusal> {
-    let letters = product(4, &Bare { mask: 0, value: 3 }, &Bare { mask: 2, value: 1 })?;
+    let letters = vectors::product(4, &Bare { mask: 0, value: 3 }, &Bare { mask: 2, value: 1 })?;
     println!("0011 times 00X1: {letters}"); // 3 or 9
-    let [(a, b), (c, d)] = explain(3, &Bare { mask: 2, value: 0 }, &Bare { mask: 0, value: 3 }, 2)?;
+    let [(a, b), (c, d)] = vectors::explain(3, &Bare { mask: 2, value: 0 }, &Bare { mask: 0, value: 3 }, 2)?;
     println!("bit 2 of 0X0 + 011: 0 from {a} + {b}, 1 from {c} + {d}"); // 3 or 5
-    let (v, least, most) = range(8, &Bare { mask: 0xfe, value: 0 }, 37, 47)?; // a fader's converter, whose lowest bit is 0
+    let (v, least, most) = vectors::range(8, &Bare { mask: 0xfe, value: 0 }, 37, 47)?; // a fader's converter, whose lowest bit is 0
     println!("XXXXXXX0 between 37 and 47: mask {:02x}, value {:02x}, smallest {least}, largest {most}", v.mask, v.value); // 0010XXX0
+    Ok(())
+}
+
+const RESET: &str = "row\topen\t00010000
+row\topen\t00000001
+row\tlocked\t00000100
+row\topen\t00000000
+op\tmul\t3\t1\t2\t0
+op\tadd\t3\t0\t3\t0
+";
+
+// Which resets of base (row 0) and index (row 1) the top bit of the address (row 3) needs: the others become X.
+fn resets() -> Result<(), Refusal> {
+    let mut t = Table::read(RESET.as_bytes())?;
+    println!("bit 7 of row 3 is {} by these start bits:", t.reset_bits(3, 7)?);
+    print!("{}", t.text()?); // 00XXXXXX and XX00XXXX: four resets of sixteen
     Ok(())
 }
 
@@ -155,7 +153,7 @@ fn main() {
         println!("read: refusal {} at {}", r.number, r.place);
         println!("its second field: {}", field(bad, r.place, 2));
     }
-    if let Err(r) = ask() {
+    if let Err(r) = ask().and_then(|()| resets()) {
         println!("ask: refusal {} at {}", r.number, r.place);
     }
 }

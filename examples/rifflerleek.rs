@@ -37,4 +37,5 @@ extern "C" {
     pub fn rifflerleek_product_bit(width: u32, mask_a: u32, value_a: u32, mask_b: u32, value_b: u32, bit: u32) -> Answer;
     pub fn rifflerleek_witnesses(kind: u32, width: u32, mask_a: u32, value_a: u32, mask_b: u32, value_b: u32, bit: u32) -> FourNumbers;
     pub fn rifflerleek_range(width: u32, mask: u32, value: u32, low: u64, high: u64) -> FourNumbers;
+    pub fn rifflerleek_reset_bits(width: *const u8, widths: usize, lock: *const u8, locks: usize, mask: *mut u32, masks: usize, value: *mut u32, values: usize, words: *const u32, word_count: usize, row: usize, bit: u32) -> Answer;
 }

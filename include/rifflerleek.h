@@ -35,7 +35,7 @@ extern "C" {
 
 /* Rises by one with every change that a host can see: of a name, a number, a call, an answer or a lent byte. The header that had
  * no version is version 1. CHANGELOG.md names the changes. */
-#define RIFFLERLEEK_VERSION 10
+#define RIFFLERLEEK_VERSION 11
 
 /* Limits. */
 #define RIFFLERLEEK_ROW_LIMIT 256      /* rows in a table */
@@ -59,7 +59,7 @@ extern "C" {
  * machine code of the archive and compares them with these; they are not proved.
  *
  *   call                     depth  stack
- *   rifflerleek_run              4    728
+ *   rifflerleek_run              5    808
  *   rifflerleek_count            1     40
  *   rifflerleek_size             3    372
  *   rifflerleek_write            3    628
@@ -68,9 +68,10 @@ extern "C" {
  *   rifflerleek_product_bit      2    424
  *   rifflerleek_witnesses        3    568
  *   rifflerleek_range            1     80
+ *   rifflerleek_reset_bits       5   2888
  */
-#define RIFFLERLEEK_DEPTH_LIMIT 4   /* the greatest depth of a call */
-#define RIFFLERLEEK_STACK_LIMIT 728 /* the greatest stack of a call, in bytes */
+#define RIFFLERLEEK_DEPTH_LIMIT 5    /* the greatest depth of a call */
+#define RIFFLERLEEK_STACK_LIMIT 2888 /* the greatest stack of a call, in bytes */
 
 /* A result: refusal is RIFFLERLEEK_DONE, place is 0, and result and second_result are what the call says, else 0. A refusal: its
  * number and its place; result and second_result are 0. */
@@ -128,7 +129,8 @@ enum {
  *   field              never refuses
  *   product_bit        4, 5, 15
  *   witnesses          4, 5, 6, 15, 16
- *   range              4, 5, 17, 18 */
+ *   range              4, 5, 17, 18
+ *   reset_bits         1 to 10 as run of all records; then 7 of the row named, 15, 19 */
 enum {
     RIFFLERLEEK_DONE = 0,            /* no refusal */
     RIFFLERLEEK_REFUSED_ROWS = 1,    /* the width slice has no row, or more than the row limit; place 0 */
@@ -139,7 +141,8 @@ enum {
     RIFFLERLEEK_REFUSED_VECTOR = 5,  /* mask and value share a set bit, or one has a bit at or above the width; the row (of bare
                                         vectors: 0) */
     RIFFLERLEEK_REFUSED_KIND = 6,    /* no kind has this number; the record. In witnesses: the kind is not add, sub or mul; place 0 */
-    RIFFLERLEEK_REFUSED_ROW = 7,     /* a used row word is outside the table; the record (of count: the row named) */
+    RIFFLERLEEK_REFUSED_ROW = 7,     /* a used row word is outside the table; the record. Or the row that count or reset_bits is asked of
+                                        is; that row */
     RIFFLERLEEK_REFUSED_WORD = 8,    /* an unused word is not 0, or a parameter is over the parameter limit; the record */
     RIFFLERLEEK_REFUSED_FIT = 9,     /* the widths of target and operands do not fit the kind; the record */
     RIFFLERLEEK_REFUSED_LOCKED = 10, /* the target row is locked; the record, inside the stretch or not */
@@ -152,7 +155,8 @@ enum {
     RIFFLERLEEK_REFUSED_BIT = 15,    /* the bit number is at or above the width; place 0 */
     RIFFLERLEEK_REFUSED_KNOWN = 16,  /* the bit is known: it is the same for every choice of numbers that the vectors cover; place 0 */
     RIFFLERLEEK_REFUSED_ENDS = 17,   /* low is greater than high, or an end is not below 2^width; place 0 */
-    RIFFLERLEEK_REFUSED_EMPTY = 18   /* no number lies between the ends and is covered by the vector; place 0 */
+    RIFFLERLEEK_REFUSED_EMPTY = 18,  /* no number lies between the ends and is covered by the vector; place 0 */
+    RIFFLERLEEK_REFUSED_UNKNOWN = 19 /* the bit is unknown (X) after the run; place 0 */
 };
 
 /* Runs the records from first up to but not including last, after a check of the whole table. result is last, and mask and value
@@ -216,6 +220,18 @@ rifflerleek_four_numbers rifflerleek_witnesses(uint32_t kind, uint32_t width, ui
  * accepted with this answer in its place, and covers at every point each plain run whose number for that row starts between the ends.
  * The time is linear in the width. Refusals 4, 5, 17, 18. */
 rifflerleek_four_numbers rifflerleek_range(uint32_t width, uint32_t mask, uint32_t value, uint64_t low, uint64_t high);
+
+/* Which start bits a conclusion rests on: every reset costs a wire, and bits that it does not rest on can be left unset. The conclusion
+ * is that a bit of a row is 0, or 1, after a run of all records from the rows as lent. The known bits of the open rows are visited, rows
+ * rising, bits rising; rows that a record overwrites are visited too, and so is the row named. Each becomes X (its mask bit 1, its value
+ * bit 0) if a run of all records from the rows as they then are, with this bit X as well, still leaves the named bit known with the same
+ * value. result is that value. mask and value hold the start rows that are left, not what a run makes of them: from these the conclusion
+ * holds, and with any further bit of an open row X it does not. Which bits are left hangs on the order, and others might be fewer. The
+ * time grows as the known bits of the open rows times the records. Refusals 1 to 10, as rifflerleek_run of all records; then 7 (the row
+ * named), 15 (the bit's number, against the width of that row), 19: no row is changed. */
+rifflerleek_answer rifflerleek_reset_bits(const uint8_t *width, size_t widths, const uint8_t *lock, size_t locks, uint32_t *mask,
+                                          size_t masks, uint32_t *value, size_t values, const uint32_t *words, size_t word_count,
+                                          size_t row, uint32_t bit);
 
 #ifdef __cplusplus
 }

@@ -6,7 +6,8 @@
 
 enum { GUARD = 64 };
 
-const char *const call_names[CALLS] = {"run", "count", "size", "write", "read", "listing", "field", "product_bit", "witnesses", "range"};
+const char *const call_names[CALLS] = {"run",   "count",       "size",      "write", "read",      "listing",
+                                       "field", "product_bit", "witnesses", "range", "reset_bits"};
 unsigned seen[CALLS][REFUSALS];
 size_t call_number;
 

@@ -6,7 +6,7 @@
 #include "draw.h"
 
 // The calls, read twice: of a text without the header, and of a listing, which has it.
-enum { RUN, COUNT, SIZE, WRITE, READ, LISTING, FIELD, PRODUCT_BIT, WITNESSES, RANGE, CALLS, REFUSALS = 19 };
+enum { RUN, COUNT, SIZE, WRITE, READ, LISTING, FIELD, PRODUCT_BIT, WITNESSES, RANGE, RESET_BITS, CALLS, REFUSALS = 20 };
 
 extern const char *const call_names[CALLS];
 

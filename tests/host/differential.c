@@ -1,10 +1,11 @@
-// Random calls, valid and damaged, and every range to width 5: the library and the reference must give the same answer (of witnesses the
-// same refusal, else pairs that the reference finds right) and leave the same bytes, also around and beyond what they write; and a text
-// that was read must be written back as it should. Every answer of every call, and every kind of record, must occur, each kind of two
-// operands also with one row named twice, and what report_texts, report_vectors and report_ranges count; and no call may take more stack
-// than the header says, which tests/host/depth reads off the archive.
+// Random calls, valid and damaged, every range to width 5, and the resets of small tables: the library and the reference must give the same
+// answer (of witnesses the same refusal, else pairs that the reference finds right) and leave the same bytes, also around and beyond what
+// they write; and a text that was read must be written back as it should. Every answer of every call, and every kind of record, must occur,
+// each kind of two operands also with one row named twice, and what the reports of texts, vectors, ranges and resets count; and no call
+// may take more stack than the header says, which tests/host/depth reads off the archive.
 // usage: differential [SEED [CALLS]]
 #include "range_calls.h"
+#include "reset_calls.h"
 #include "text_calls.h"
 #include "vector_calls.h"
 #include <stdio.h>
@@ -12,7 +13,7 @@
 #include <time.h>
 
 // The answers that each call has, as bits: bit 0 for a result, bit n for refusal n.
-static const unsigned answers[CALLS] = {0x7ff, 0x0b7, 0x3ff, 0x43ff, 0x3805, 0x3805, 0x0001, 0x8031, 0x18071, 0x60031};
+static const unsigned answers[CALLS] = {0x7ff, 0x0b7, 0x3ff, 0x43ff, 0x3805, 0x3805, 0x0001, 0x8031, 0x18071, 0x60031, 0x887ff};
 
 static unsigned steps[KINDS], steps_twice[KINDS];
 
@@ -98,7 +99,7 @@ static void call_write(void)
     }
 }
 
-// How often each answer, each kind and what texts and bare vectors must have was seen, and how many were not.
+// How often each answer, each kind and what the other reports count was seen, and how many were not.
 static int report(void)
 {
     int missing = 0;
@@ -129,22 +130,25 @@ static int report(void)
     printf("\n");
     missing += report_texts();
     missing += report_vectors();
-    return missing + report_ranges();
+    missing += report_ranges();
+    return missing + report_resets();
 }
 
 int main(int argc, char **argv)
 {
     static void (*const calls[])(void) = {call_run,         call_run,       call_run,       call_run,   call_count, call_size,
                                           call_write,       call_read,      call_read,      call_field, call_trip,  call_product_bit,
-                                          call_product_bit, call_witnesses, call_witnesses, call_range, call_range};
+                                          call_product_bit, call_witnesses, call_witnesses, call_range, call_range, call_reset_bits,
+                                          call_reset_bits};
     uint64_t from = argc > 1 ? strtoull(argv[1], NULL, 10) : 1;
-    size_t count = argc > 2 ? strtoull(argv[2], NULL, 10) : 136000;
+    size_t count = argc > 2 ? strtoull(argv[2], NULL, 10) : 152000;
     printf("seed %llu, %zu calls\n", (unsigned long long)from, count);
     fflush(stdout);
     seed(from);
     for (call_number = 0; call_number < count; call_number++)
         calls[below(sizeof calls / sizeof *calls)]();
     sweep_ranges();
+    sweep_resets();
     int missing = report();
     size_t stack = library_stack();
     printf("library and reference agree on every answer and every byte, in %.1f s; never seen of what must be: %d\n",

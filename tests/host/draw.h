@@ -4,14 +4,22 @@
 
 #include "reference.h"
 
-// Enough for every text of 40,000 bytes; 2^LIMIT choices of operands for a bit; the styles of draw_vector.
-enum { MAX_ROWS = 4000, MAX_WORDS = 15000, MAX_TEXT = 60000, LIMIT = 14, STYLES = 10 };
+// Enough for every text of 40,000 bytes; 2^LIMIT choices of operands for a bit; the styles of draw_vector; the greatest width of narrow
+// rows, which 2^LIMIT choices settle.
+enum { MAX_ROWS = 4000, MAX_WORDS = 15000, MAX_TEXT = 60000, LIMIT = 14, STYLES = 10, NARROW = 6 };
 
 // A table with slices of any lengths, and a stretch.
 struct draft {
     uint8_t width[MAX_ROWS], lock[MAX_ROWS];
     uint32_t mask[MAX_ROWS], value[MAX_ROWS], words[MAX_WORDS];
     size_t widths, locks, masks, values, word_count, first, last;
+};
+
+// A table, and a bit of one of its rows.
+struct reset {
+    struct draft d;
+    size_t row;
+    uint32_t bit;
 };
 
 // edition: 1 or 2, whose letters the rows have. fault: what is wrong with the header, by number, HEADER_FAULTS where nothing is, and the
@@ -53,8 +61,24 @@ struct ref_table slices(struct draft *d);
 // A table that run accepts, with a stretch in which 2^LIMIT choices settle each bit.
 void draw_table(struct draft *d);
 
+// A table of so many rows and records that run accepts, with a stretch of all of them. All bits are known, or most are. Where it is narrow
+// 2^LIMIT choices settle each bit.
+void draw_known_table(struct draft *d, size_t rows, size_t records, int narrow);
+
 // One fault after the condition of refusal number 1 to 10. The table may still be accepted.
 void damage_table(struct draft *d, unsigned number);
+
+// A table whose bits are known, or most of them, and a bit of a row, most often of one that a record writes: two of five with up to three
+// faults, of the table, the row or the bit, which may be X. Seldom the table has 256 rows and 1,024 records.
+void draw_reset(struct reset *q);
+
+// A narrow table without a fault, of at most so many known bits in open rows, whose last record has two operands, and a bit of the row that
+// it writes.
+void draw_small_reset(struct reset *q, size_t most);
+
+// The known bits of a row of the draft, as a word; one of them made X.
+uint32_t known_bits(const struct draft *d, size_t row);
+void set_unknown(struct draft *d, size_t row, uint32_t bit);
 
 // Bytes at the end of a text; a line at its end, with a fault where bad is 1.
 void put(struct text *x, const char *s, size_t length);

@@ -34,22 +34,19 @@ struct ref_table slices(struct draft *d)
 }
 
 // A few widths that go together, so that records of every kind find rows that fit.
-static void draw_widths(struct draft *d)
+static void draw_widths(struct draft *d, unsigned (*width)(void))
 {
-    unsigned a = draw_width(), b = draw_width(), sum = a + b <= 32 ? a + b : a, twice = a <= 16 ? 2 * a : a;
-    unsigned pool[] = {a, a, a, a, b, b, sum, sum, twice, twice, 1, draw_width()};
+    unsigned a = width(), b = width(), sum = a + b <= 32 ? a + b : a, twice = a <= 16 ? 2 * a : a;
+    unsigned pool[] = {a, a, a, a, b, b, sum, sum, twice, twice, 1, width()};
     for (size_t i = 0; i < d->widths; i++)
         d->width[i] = (uint8_t)pool[below(12)];
 }
 
-static void draw_vectors(struct draft *d)
+static void draw_row(struct draft *d, size_t i, size_t style)
 {
-    size_t style = below(STYLES);
-    for (size_t i = 0; i < d->widths; i++) {
-        struct ref_vector v = draw_vector(d->width[i], style);
-        d->mask[i] = v.mask;
-        d->value[i] = v.value;
-    }
+    struct ref_vector v = draw_vector(d->width[i], style);
+    d->mask[i] = v.mask;
+    d->value[i] = v.value;
 }
 
 // Rows and a parameter for record r, of its kind: 1 where they fit.
@@ -98,20 +95,43 @@ static void settle(struct draft *d, unsigned limit)
         }
 }
 
+// So many rows, of widths that are drawn by width and vectors of one style, and so many records that run accepts: the stretch is all.
+static void fill(struct draft *d, size_t rows, size_t records, unsigned (*width)(void), size_t style)
+{
+    d->widths = d->locks = d->masks = d->values = rows;
+    d->word_count = 5 * records;
+    d->first = 0;
+    d->last = records;
+    draw_widths(d, width);
+    for (size_t i = 0; i < rows; i++) {
+        draw_row(d, i, style);
+        d->lock[i] = percent(15);
+    }
+    for (size_t r = 0; r < records; r++)
+        draw_record(d, r);
+}
+
 void draw_table(struct draft *d)
 {
     int large = below(300) == 0;
-    d->widths = large ? 256 - below(3) : percent(10) ? 1 : percent(70) ? 2 + below(7) : 2 + below(30);
-    d->locks = d->masks = d->values = d->widths;
-    size_t records = large ? 1024 - below(3) : below(12);
-    d->word_count = 5 * records;
-    draw_widths(d);
-    draw_vectors(d);
-    for (size_t i = 0; i < d->widths; i++)
-        d->lock[i] = percent(15);
-    for (size_t r = 0; r < records; r++)
-        draw_record(d, r);
+    size_t rows = large ? 256 - below(3) : percent(10) ? 1 : percent(70) ? 2 + below(7) : 2 + below(30);
+    size_t records = large ? 1024 - below(3) : below(12), style = below(STYLES);
+    fill(d, rows, records, draw_width, style);
     d->last = percent(70) ? records : below(records + 1);
     d->first = percent(50) ? 0 : below(d->last + 1);
     settle(d, large ? 8 : LIMIT);
+}
+
+static unsigned narrow_width(void)
+{
+    return 1 + (unsigned)below(NARROW / 2);
+}
+
+void draw_known_table(struct draft *d, size_t rows, size_t records, int narrow)
+{
+    fill(d, rows, records, narrow ? narrow_width : draw_width, 0);
+    unsigned unknown = percent(50) ? 0 : 40;
+    for (size_t i = 0; i < rows; i++)
+        if (percent(unknown))
+            draw_row(d, i, below(STYLES));
 }

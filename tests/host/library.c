@@ -53,6 +53,11 @@ static void make_count(void)
     call.answer = rifflerleek_count(ROWS, call.x);
 }
 
+static void make_reset_bits(void)
+{
+    call.answer = rifflerleek_reset_bits(ROWS, WORDS, call.x, (uint32_t)call.y);
+}
+
 static void make_size(void)
 {
     call.answer = rifflerleek_size(ROWS, WORDS);
@@ -92,6 +97,14 @@ rifflerleek_answer library_count(struct ref_table *t, size_t row)
     call.t = *t;
     call.x = row;
     return answer_of(make_count);
+}
+
+rifflerleek_answer library_reset_bits(struct ref_table *t, size_t row, uint32_t bit)
+{
+    call.t = *t;
+    call.x = row;
+    call.y = bit;
+    return answer_of(make_reset_bits);
 }
 
 rifflerleek_answer library_size(struct ref_table *t)

@@ -101,6 +101,12 @@ struct ref_answer ref_count(const struct ref_table *t, size_t row);
 struct ref_answer ref_size(const struct ref_table *t);
 struct ref_answer ref_write(const struct ref_table *t, uint8_t *out, size_t length);
 
+// A bit of a row after a run of all records of a table that run accepts, whose rows stay as they are: 0, 1, or 2 for X. exact as of ref_run.
+unsigned ref_conclusion(const struct ref_table *t, size_t row, uint32_t bit, unsigned limit, int *exact);
+
+// exact as of ref_run, for every run that is tried: where it becomes 0 the answer and the rows say nothing.
+struct ref_answer ref_reset_bits(struct ref_table *t, size_t row, uint32_t bit, unsigned limit, int *exact);
+
 // Whether a text begins with the header of edition 2.
 int ref_headed(const uint8_t *text, size_t length);
 

@@ -5,8 +5,9 @@ use mathlib.Core.Bool.{Bool, true, false, cond, _&&_}
 use mathlib.Core.List.{List, [], _∷_, _++_}
 use Prim.Native.Nat.{ℕ, zero, suc}
 use lib.Dec.{T}
+use Rattle.bits.specs.Counted.{rising}
 use Rattle.bits.proofs.Bools.{T-and, T-left, T-right}
-use Rattle.checks.specs.Check.{refused, Check, verdict, rising}
+use Rattle.checks.specs.Check.{refused, Check, verdict}
 use Rattle.checks.proofs.Verdicts.{number-of, not-done}
 
 abbrev pub numbered : (ℕ → Bool) → List Check → Bool

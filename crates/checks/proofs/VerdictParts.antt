@@ -6,10 +6,11 @@ use native.Mathlib.Nat.{sub-zero}
 use native.Mathlib.Numerals.{add-one}
 use native.Mathlib.Omega.{arith}
 use lib.Pow.{pow-pos}
+use Rattle.bits.specs.Counted.{rising}
 use Rattle.checks.specs.declared.Refusal.{Refusal}
 use Rattle.checks.specs.declared.Verdict.{Verdict}
 use Rattle.checks.specs.declared.Verdict.the-variants.{Passed as Clear, Refused}
-use Rattle.checks.specs.Check.{Answer, done, refused, Check, verdict, rising}
+use Rattle.checks.specs.Check.{Answer, done, refused, Check, verdict}
 use Rattle.checks.specs.Model.{verdictModel, judged}
 use Rattle.checks.proofs.Verdicts.{passed-of-done, verdict-passed, verdict-refused}
 

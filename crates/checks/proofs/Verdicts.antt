@@ -1,45 +1,33 @@
 -- The first check that holds decides: laws of check lists. Assumes nothing.
-use mathlib.Core.Path.{_≡_, refl, sym, ap, _∙_, subst}
+use mathlib.Core.Path.{_≡_, refl, sym, ap, _∙_}
 use mathlib.Core.Bool.{Bool, true, false, not, cond}
 use mathlib.Core.List.{List, [], _∷_, _++_, append-nil}
-use Prim.Native.Nat.{ℕ, zero, suc, _+_, _<_}
-use native.Mathlib.Nat.{add-zero, zero-add, add-suc, suc-add}
+use Prim.Native.Nat.{ℕ, _<_}
 use native.Mathlib.Omega.{arith}
 use lib.Dec.{T}
-use Rattle.checks.specs.Check.{Answer, done, refused, Check, verdict, rising, Passed}
+use Rattle.bits.specs.Counted.{rising}
+use Rattle.vectors.proofs.ListParts.{all-append, all-left, all-right, rising-all, all-rising}
+use Rattle.checks.specs.Check.{Answer, done, refused, Check, verdict, Passed}
 use Rattle.checks.specs.Model.{judged}
 
+-- what a list's entry must be to have passed
+abbrev Clears : Check → Type 0
+Clears c = T (not (c .fails))
+
 pub passed-append : (cs ds : List Check) → Passed cs → Passed ds → Passed (cs ++ ds)
-passed-append [] ds p q = q
-passed-append (c ∷ cs) ds p q = (p .0, passed-append cs ds (p .1) q)
+passed-append = all-append Clears
 
 pub passed-left : (cs ds : List Check) → Passed (cs ++ ds) → Passed cs
-passed-left [] ds p = tt
-passed-left (c ∷ cs) ds p = (p .0, passed-left cs ds (p .1))
+passed-left = all-left Clears
 
 pub passed-right : (cs ds : List Check) → Passed (cs ++ ds) → Passed ds
-passed-right [] ds p = p
-passed-right (c ∷ cs) ds p = passed-right cs ds (p .1)
-
-from-intro : (f : ℕ → List Check) (i n : ℕ) → ((j : ℕ) → j < n → Passed (f (i + j))) → Passed (rising f i n)
-unfolding rising
-from-intro f i zero h = tt
-from-intro f i (suc n) h =
-    passed-append (f i) (rising f (suc i) n) (rw add-zero at (h 0 (omega arith)))
-    (from-intro f (suc i) n (λ j l. subst (λ (x : ℕ). Passed (f x)) (add-suc i j ∙ sym (suc-add i j)) (h (suc j) (omega arith))))
-
-from-elim : (f : ℕ → List Check) (i n : ℕ) → Passed (rising f i n) → (j : ℕ) → j < n → Passed (f (i + j))
-unfolding rising
-from-elim f i zero p j l = absurd (omega arith)
-from-elim f i (suc n) p zero l = rw add-zero (passed-left (f i) (rising f (suc i) n) p)
-from-elim f i (suc n) p (suc j) l =
-    subst (λ (x : ℕ). Passed (f x)) (suc-add i j ∙ sym (add-suc i j)) (from-elim f (suc i) n (passed-right (f i) (rising f (suc i) n) p) j (omega arith))
+passed-right = all-right Clears
 
 pub rising-intro : (f : ℕ → List Check) (n : ℕ) → ((j : ℕ) → j < n → Passed (f j)) → Passed (rising f 0 n)
-rising-intro f n h = from-intro f 0 n (λ j l. subst (λ (x : ℕ). Passed (f x)) (sym (zero-add j)) (h j l))
+rising-intro f n h = rising-all Clears f 0 n (λ j l. h j (omega arith))
 
 pub rising-elim : (f : ℕ → List Check) (n : ℕ) → Passed (rising f 0 n) → (j : ℕ) → j < n → Passed (f j)
-rising-elim f n p j l = subst (λ (x : ℕ). Passed (f x)) (zero-add j) (from-elim f 0 n p j l)
+rising-elim f n p j l = all-rising Clears f 0 n p j (omega arith) (omega arith)
 
 -- ---- the verdict
 

@@ -3,11 +3,10 @@
 --   Check           a condition, and the number and place of the refusal that it causes
 --   verdict cs a    the first check whose condition holds refuses; where none holds the answer is a
 --   placed i fs     faults as checks with the place i
---   rising f i n    the lists f i, f (i + 1), .. , of which there are n, one after another
 --   Passed cs       no condition of cs holds
 use mathlib.Core.Bool.{Bool, not, cond}
-use mathlib.Core.List.{List, [], _∷_, _++_, map}
-use Prim.Native.Nat.{ℕ, zero, suc}
+use mathlib.Core.List.{List, [], _∷_, map}
+use Prim.Native.Nat.{ℕ}
 use lib.Dec.{T}
 use Rattle.vectors.specs.Lists.{All}
 use Rattle.operations.specs.Record.{Fault}
@@ -28,10 +27,6 @@ verdict (c ∷ cs) a = cond (c .fails) (refused (c .number) (c .place)) (verdict
 
 abbrev pub placed : ℕ → List Fault → List Check
 placed i fs = map (λ f. record { fails = f .fails; number = f .number; place = i }) fs
-
-unfoldable pub rising : (ℕ → List Check) → ℕ → ℕ → List Check
-rising f i zero = []
-rising f i (suc n) = f i ++ rising f (suc i) n
 
 abbrev pub Passed : List Check → Type 0
 Passed cs = All (λ c. T (not (c .fails))) cs

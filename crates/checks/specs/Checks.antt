@@ -3,10 +3,11 @@
 --   noRows, tooManyRows        the conditions of 1;   locksDiffer, masksDiffer, valuesDiffer   of 2
 --   wordsLeftOver, tooManyRecords, firstAfterLast, lastPastEnd   of 3
 --   widthZero, widthOver, lockOver   of 4;            planeOver, planesMeet   of 5
---   rowOutside t i             of count's 7;      bitOutside w k   of 15 (02, request 6)
+--   rowOutside t i             of 7 of a row that a call names;   bitOutside w k   of 15 (02, request 6)
 --   rowShapeFaults t           1 and 2;      wordFaults t      3 without a stretch;   stretchFaults t first last   3 for a stretch
 --   rowFaults w l m v          4 and 5 of a row;  rowFaultsAt t i   of row i;   rowChecks t   of all rows
 --   widthFaults w, vectorFaults w m v   their parts: a width, and a vector of that width;   bitFaults w k   15 of a bit number
+--   rowNamedFaults t i            7 of a row that a call names
 --   recordChecks t             6 to 9 of all records;          openChecks t  6 to 10 of all records
 --   runChecks, sizeChecks, countChecks   what run, size and count refuse, in order
 use mathlib.Core.Bool.{Bool, not}
@@ -17,9 +18,10 @@ use lib.ListN.{length, getD}
 use lib.Bits.{bitAnd}
 use Rattle.operations.specs.Limits.{recordWords}
 use Rattle.operations.specs.Record.{Fault, fault, widthAt, recordFaults, lockFault}
+use Rattle.bits.specs.Counted.{rising}
 use Rattle.bits.specs.Limits.{widthLimit}
 use Rattle.checks.specs.Limits.{rowLimit, recordLimit}
-use Rattle.checks.specs.Check.{Check, placed, rising}
+use Rattle.checks.specs.Check.{Check, placed}
 use Rattle.checks.specs.Table.{Table, recordCount, recordOf}
 
 -- ---- 1: the width slice has no row, or over 256
@@ -74,7 +76,7 @@ planeOver w n = leb (2 ^ w) n
 abbrev pub planesMeet : ℕ → ℕ → Bool
 planesMeet m v = not (eqb (bitAnd m v) 0)
 
--- ---- 7 of count: the row named outside the table
+-- ---- 7 of count, and of reset_bits (02, request 9): the row named outside the table
 
 abbrev pub rowOutside : Table → ℕ → Bool
 rowOutside t i = leb (length (t .widths)) i
@@ -104,13 +106,16 @@ vectorFaults w m v = fault (planeOver w m) 5 ∷ fault (planeOver w v) 5 ∷ fau
 abbrev pub bitFaults : ℕ → ℕ → List Fault
 bitFaults w k = fault (bitOutside w k) 15 ∷ []
 
+abbrev pub rowNamedFaults : Table → ℕ → List Fault
+rowNamedFaults t i = fault (rowOutside t i) 7 ∷ []
+
 abbrev pub rowFaults : ℕ → ℕ → ℕ → ℕ → List Fault
 rowFaults w l m v = widthFaults w ++ fault (lockOver l) 4 ∷ vectorFaults w m v
 
 abbrev pub rowFaultsAt : Table → ℕ → List Fault
 rowFaultsAt t i = rowFaults (widthAt (t .widths) i) (getD (t .locks) i 0) (getD (t .masks) i 0) (getD (t .values) i 0)
 
--- Place is a row for 4 and 5, a record for 6 to 10, the row named for count's 7, else 0.
+-- Place is a row for 4 and 5, a record for 6 to 10, the row named for 7 of that row, else 0.
 abbrev pub rowChecks : Table → List Check
 rowChecks t = rising (λ i. placed i (rowFaultsAt t i)) 0 (length (t .widths))
 
@@ -127,4 +132,4 @@ unfoldable pub sizeChecks : Table → List Check
 sizeChecks t = placed 0 (rowShapeFaults t) ++ (placed 0 (wordFaults t) ++ (rowChecks t ++ recordChecks t))
 
 unfoldable pub countChecks : Table → ℕ → List Check
-countChecks t i = placed 0 (rowShapeFaults t) ++ (rowChecks t ++ placed i (fault (rowOutside t i) 7 ∷ []))
+countChecks t i = placed 0 (rowShapeFaults t) ++ (rowChecks t ++ placed i (rowNamedFaults t i))

@@ -12,7 +12,8 @@ use mathlib.Core.Path.{_≡_}
 use lib.ListN.{length}
 use Rattle.operations.specs.Record.{namedFaults, recordFaults, lockFault}
 use Rattle.checks.specs.Limits.{rowLimit}
-use Rattle.checks.specs.Check.{Check, placed, rising, Passed}
+use Rattle.bits.specs.Counted.{rising}
+use Rattle.checks.specs.Check.{Check, placed, Passed}
 use Rattle.checks.specs.Table.{Table, recordCount, recordOf}
 use Rattle.checks.specs.Checks.{rowShapeFaults, wordFaults, rowChecks}
 use Rattle.operations.specs.Limits.{parameterLimit}

@@ -35,3 +35,5 @@ pub const KNOWN: u32 = 16;
 pub const ENDS: u32 = 17;
 
 pub const EMPTY: u32 = 18;
+
+pub const UNKNOWN: u32 = 19;

@@ -74,6 +74,7 @@ fn print_refusals() {
     print_refusal(b"known", refusals::KNOWN);
     print_refusal(b"ends", refusals::ENDS);
     print_refusal(b"empty", refusals::EMPTY);
+    print_refusal(b"unknown", refusals::UNKNOWN);
 }
 
 // The most bytes of a row line, as the definitions have it.

@@ -1,10 +1,12 @@
 // The executed tests: every vector pair to width 4, through the public run on real tables, against plain enumeration of all choices.
-// The output has a line for each kind, then one for all records that name one row twice, one for `product_bit`, one for `witnesses`, one for `range`, one for
-// the examples and the total: the name, the tables tried (for `product_bit` and `witnesses` the bits, for `range` the pairs of ends), those that disagree.
+// The output has a line for each kind, then one for all records that name one row twice, one each for `product_bit`, `witnesses`, `range` and `reset_bits`, one
+// for the examples and the total: the name, the tables tried (for `product_bit`, `witnesses` and `reset_bits` the bits, for `range` the pairs of ends), those
+// that disagree.
 use oracle::shapes::KINDS;
 use report::print_kind;
 use report::print_line;
 use report::print_tally;
+use reset_trials::sweeps::resets;
 use sweeps::Through;
 use sweeps::sweep;
 use trials::counting::Tally;
@@ -43,8 +45,10 @@ fn main() {
     print_line(b"witnesses", pairs);
     let ends = sweep(0, Through::Range);
     print_line(b"range", ends);
+    let conclusions = resets();
+    print_line(b"reset_bits", conclusions);
     let shown = examples();
     print_line(b"examples", shown);
-    let calls = joined(joined(bits, pairs), ends);
+    let calls = joined(joined(bits, pairs), joined(ends, conclusions));
     print_line(b"total", joined(joined(tables, calls), shown));
 }

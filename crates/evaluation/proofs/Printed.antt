@@ -11,7 +11,7 @@ use Rattle.tables.specs.Run.{Ran, programOf, runOf}
 use Rattle.tables.specs.Demand.{StateFits}
 use Rattle.tables.proofs.Points.{after-fits}
 use Rattle.tables.proofs.Demand3.{ran-done, accepted-of-run, accepted-with, start-fits}
-use Rattle.tables.proofs.RunLaws.{never-done}
+use Rattle.checks.proofs.Verdicts.{not-done}
 use Rattle.grammar.specs.Print.{textOf}
 use Rattle.grammar.specs.Lists.{filled}
 use Rattle.grammar.proofs.Sizes.{text-size}
@@ -66,7 +66,7 @@ module _ (t : Table) (m : ℕ) (rows : State) (e : _≡_ {A = Ran} (record { ans
 
   -- write does not refuse what run accepted
   pub never-refused : (n i : ℕ) (new : List ℕ) → _≡_ {A = Written} (record { answer = refused n i; buffer = new }) (writeOf (withRows t rows) old) → ⊥
-  never-refused n i new w = never-done n i (length (textOf (withRows t rows))) (ap (λ (x : Written). x .answer) (w ∙ written-done t m rows e old h))
+  never-refused n i new w = not-done n i (length (textOf (withRows t rows))) (ap (λ (x : Written). x .answer) (w ∙ written-done t m rows e old h))
 
 -- ---- read
 

@@ -1,29 +1,19 @@
 -- Lists made by counting up, and the lines of a table. Assumes nothing.
---   listed-all .. listed-map              lists made by counting up
+--   listed-ext .. listed-map              lists made by counting up
 --   bad-none, rows-listed, words-listed    the lines of a table hold its rows and words, and none is bad
 use mathlib.Core.Path.{_≡_, refl, sym, ap, ap₂, _∙_}
 use mathlib.Core.Bool.{Bool, true, false}
 use mathlib.Core.List.{List, [], _∷_, _++_, map}
-use Prim.Native.Nat.{ℕ, zero, suc, _+_, _*_, _<_}
+use Prim.Native.Nat.{ℕ, zero, suc, _+_, _*_}
 use native.Mathlib.Nat.{mul-suc}
 use native.Mathlib.Omega.{arith}
 use lib.ListN.{length, getD, take, drop, take-append-drop}
 use lib.Seq.{drop-cons, drop-drop, drop-length}
-use Rattle.vectors.specs.Lists.{All}
 use Rattle.bits.specs.Counted.{listed}
 use Rattle.grammar.specs.Print.{LineRow, Line, rowLine, recordLine}
 use Rattle.grammar.specs.Lines.{firstBad, rowsIn, wordsIn}
 
-pub all-append : {A : Type 0} (P : A → Type 0) (l r : List A) → All P l → All P r → All P (l ++ r)
-all-append P [] r h k = k
-all-append P (a ∷ l) r h k = (h .0, all-append P l r (h .1) k)
-
 module _ {A : Type 0} where
-  pub listed-all : (P : A → Type 0) (f : ℕ → A) (i n : ℕ) → ((j : ℕ) → j < i + n → P (f j)) → All P (listed f i n)
-  unfolding listed
-  listed-all P f i zero h = tt
-  listed-all P f i (suc n) h = (h i (omega arith), listed-all P f (suc i) n (λ j l. h j (omega arith)))
-
   pub listed-ext : (f g : ℕ → A) → ((j : ℕ) → f j ≡ g j) → (i n : ℕ) → listed f i n ≡ listed g i n
   unfolding listed
   listed-ext f g h i zero = refl

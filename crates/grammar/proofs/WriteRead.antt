@@ -25,7 +25,8 @@ use Rattle.grammar.proofs.Tests.{ne→neqb, allOf-imp}
 use Rattle.grammar.proofs.Cuts.{without, pieces-cut, pieces-joined, by-first, all-joined}
 use Rattle.grammar.proofs.Names.{clean}
 use Rattle.grammar.proofs.LineTrips.{LineFits, line-trip, fields-clean}
-use Rattle.grammar.proofs.Listed.{all-append, listed-all, listed-ext, listed-getD, listed-map, bad-none, rows-listed, words-after, words-listed}
+use Rattle.vectors.proofs.ListParts.{all-append, listed-all}
+use Rattle.grammar.proofs.Listed.{listed-ext, listed-getD, listed-map, bad-none, rows-listed, words-after, words-listed}
 use Rattle.grammar.proofs.Openings.{opening-bare, lines-after}
 use Rattle.grammar.proofs.WordUses.{words-length, row-fits, record-fits}
 

@@ -2,5 +2,6 @@
 pub mod Hosted
 pub mod Numbered
 pub mod HostRanges
+pub mod HostResets
 pub mod Runs
 pub mod Starts

@@ -1,17 +1,18 @@
--- The refusals of run, of witnesses and of range have numbers from 1 on. Assumes nothing.
+-- The refusals of run, of reset_bits, of witnesses and of range have numbers from 1 on. Assumes nothing.
 use mathlib.Core.Path.{_≡_}
 use mathlib.Core.List.{_++_}
 use Prim.Native.Nat.{ℕ, _≤_}
 use lib.Dec.{T, leb, leb→le}
 use lib.ListN.{length}
-use Rattle.operations.specs.Record.{recordFaults, lockFault}
+use Rattle.operations.specs.Record.{recordFaults, lockFault, widthAt}
 use Rattle.checks.specs.Check.{refused, verdict, placed}
-use Rattle.checks.specs.Checks.{rowFaultsAt, rowChecks, openChecks, runChecks}
+use Rattle.checks.specs.Checks.{rowFaultsAt, bitFaults, rowNamedFaults, rowChecks, openChecks, runChecks}
 use Rattle.checks.specs.Model.{judged}
 use Rattle.checks.specs.Table.{Table, recordCount, recordOf}
 use Rattle.checks.proofs.Numbered.{numbered, numbered-append, numbered-rising, refused-number}
 use Rattle.range_search.specs.Range.{rangeIn}
 use Rattle.vectors.specs.Row.{row}
+use Rattle.resets.specs.Reset.{valueOf, unknownFaults, namingChecks, resetChecks}
 use Rattle.vector_calls.specs.Witnesses.{witnessChecks}
 use Rattle.vector_calls.specs.Ranges.{rangeChecks, rangeOf}
 
@@ -29,6 +30,16 @@ module _ (t : Table) (first last : ℕ) where
 
   pub run-refused : (n i : ℕ) → verdict (runChecks t first last) last ≡ refused n i → 1 ≤ n
   run-refused n i e = leb→le 1 n (refused-number (leb 1) (runChecks t first last) last n i run-numbered e)
+
+module _ (t : Table) (i k : ℕ) where
+  reset-numbered : T (numbered (leb 1) (resetChecks t i k))
+  unfolding resetChecks namingChecks
+  reset-numbered =
+      numbered-append (leb 1) (namingChecks t i k) (placed 0 (unknownFaults t i k))
+      (numbered-append (leb 1) (runChecks t 0 (recordCount t)) (placed i (rowNamedFaults t i) ++ placed 0 (bitFaults (widthAt (t .widths) i) k)) (run-numbered t 0 (recordCount t)) tt) tt
+
+  pub reset-refused : (n j : ℕ) → verdict (resetChecks t i k) (valueOf t i k) ≡ refused n j → 1 ≤ n
+  reset-refused n j e = leb→le 1 n (refused-number (leb 1) (resetChecks t i k) (valueOf t i k) n j reset-numbered e)
 
 module _ (kind w ma va mb vb k : ℕ) where
   witness-numbered : T (numbered (leb 1) (witnessChecks kind w ma va mb vb k))

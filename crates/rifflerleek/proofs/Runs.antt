@@ -1,30 +1,28 @@
 -- A host's answer to run says what run's own answer says, and its refusal 0 is a done run. Assumes nothing.
-use mathlib.Core.Path.{_≡_, refl, sym, ap, _∙_}
+use mathlib.Core.Path.{_≡_, sym, ap, _∙_}
 use mathlib.Core.List.{List}
-use Prim.Native.Nat.{ℕ}
+use Prim.Native.Nat.{ℕ, _-_}
 use native.Mathlib.Omega.{arith}
 use Rattle.checks.specs.Check.{Answer, done, refused, verdict}
 use Rattle.checks.specs.Checks.{runChecks}
-use Rattle.checks.specs.Table.{Table}
+use Rattle.checks.specs.Table.{Table, startOf}
 use Rattle.checks.proofs.Verdicts.{passed-of-done, done-of-passed}
+use Rattle.tables.specs.Step.{after}
 use Rattle.tables.specs.Known.{Demand2}
 use Rattle.tables.specs.Demand.{Demand3}
-use Rattle.tables.specs.Run.{Ran, ranAs, runOf}
+use Rattle.tables.specs.Run.{programOf, Ran, runOf}
 use Rattle.tables.specs.declared.RunAnswer.{RunAnswer}
 use Rattle.tables.specs.Model.{held, runModel, ran}
+use Rattle.tables.proofs.Leaving.{leaving-answer}
 use Rattle.tables.proofs.RunLaws.{Meets}
 use Rattle.rifflerleek.specs.declared.Answer.{Answer as HostAnswer}
 use Rattle.rifflerleek.specs.Host.{numberAnswer, outcome, hostRan}
 use Rattle.rifflerleek.proofs.Numbered.{run-refused}
 
 module _ (t : Table) (first last : ℕ) where
-  answer-kept : (a : Answer ℕ) → ranAs a t first .answer ≡ a
-  answer-kept (done n) = refl
-  answer-kept (refused n i) = refl
-
   run-answer : runOf t first last .answer ≡ verdict (runChecks t first last) last
   unfolding runOf
-  run-answer = answer-kept (verdict (runChecks t first last) last)
+  run-answer = leaving-answer t (after (programOf t) first (last - first) (startOf t)) (verdict (runChecks t first last) last)
 
   -- a done run answers last
   done-last : (n : ℕ) → done n ≡ verdict (runChecks t first last) last → done n ≡ done last

@@ -1,13 +1,13 @@
 -- What a host program is handed: the paper's answer as a struct, of two numbers or of four, and what the call leaves (01, "Calls": "the result, or a refusal holding its number and its place").
 --   hostResult a b      a result of two numbers: refusal 0;   hostRefusal n p   a refusal: its number and its place
---   numberAnswer      of run, size and write, whose result is one number;   countAnswer   of count;   countsAnswer   of read
+--   numberAnswer      of run, size, write and reset_bits, whose result is one number;   countAnswer   of count;   countsAnswer   of read
 --   endsAnswer        of field: where the part begins and ends
 --   bitNumber b       an output bit as a number: 2 for X;   bitAnswer   of product_bit
 --   fourRefusal n p   a refusal of a call that gives four numbers: they are 0;   FourAnswers a r   r refuses as a does, or is done
 --   pairOf x y        two of them as operands
 --   rangeAnswer       of range: a vector's mask and value, the smallest and the largest number;   rangeHeld r   these of a host's answer
 --   Outcome L         an answer, and what the call leaves in the slices;   outcome r left   these of a host
---   hostRan, hostWritten, hostRead   these of what run, write and read answer and leave
+--   hostRan, hostWritten, hostRead   these of what run and reset_bits, write, and read answer and leave
 use mathlib.Core.Path.{_≡_}
 use mathlib.Core.List.{List}
 use Prim.Native.Nat.{ℕ}

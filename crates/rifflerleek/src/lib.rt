@@ -19,6 +19,7 @@ use tables::RunAnswer;
 use texts::BytesAnswer;
 use texts::ReadAnswer;
 
+mod reset_exports; // reset_exports.rt: which reset bits a conclusion rests on
 mod vector_exports; // vector_exports.rt: the calls on bare vectors
 
 // What a call answers that gives at most two numbers: refusal 0 and the results, or the refusal's number and its place.

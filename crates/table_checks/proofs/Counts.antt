@@ -1,14 +1,13 @@
 -- What count's checks, passed, give. Assumes nothing.
 use mathlib.Core.Path.{_≡_}
-use mathlib.Core.List.{List, [], _∷_, _++_}
+use mathlib.Core.List.{List, _++_}
 use Prim.Native.Nat.{ℕ, _≤_, _<_}
 use lib.Dec.{nleb→lt}
 use lib.ListN.{length}
-use Rattle.operations.specs.Record.{fault}
 use Rattle.checks.specs.Check.{done, Check, placed, Passed}
 use Rattle.checks.specs.Limits.{rowLimit}
 use Rattle.checks.specs.Table.{Table}
-use Rattle.checks.specs.Checks.{rowShapeFaults, rowFaultsAt, rowChecks, rowOutside, countChecks}
+use Rattle.checks.specs.Checks.{rowShapeFaults, rowFaultsAt, rowChecks, rowNamedFaults, countChecks}
 use Rattle.checks.specs.Accepted.{RowPassed}
 use Rattle.checks.specs.Model.{judged}
 use Rattle.checks.specs.Encoding.{RowSlices}
@@ -21,7 +20,7 @@ module _ (t : Table) (i : ℕ) (e : judged (countChecks t i) ≡ done tt) where
   shape = placed 0 (rowShapeFaults t)
 
   abbrev seven : List Check
-  seven = placed i (fault (rowOutside t i) 7 ∷ [])
+  seven = placed i (rowNamedFaults t i)
 
   passed : Passed (shape ++ (rowChecks t ++ seven))
   unfolding countChecks

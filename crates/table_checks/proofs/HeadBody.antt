@@ -7,7 +7,8 @@ use lib.Dec.{eqb, nltb→le, eqb→eq}
 use lib.ListN.{length}
 use Rattle.bits.proofs.Bools.{T-not-not}
 use Rattle.operations.specs.Record.{recordFaults}
-use Rattle.checks.specs.Check.{done, Check, placed, rising, Passed}
+use Rattle.bits.specs.Counted.{rising}
+use Rattle.checks.specs.Check.{done, Check, placed, Passed}
 use Rattle.checks.specs.Limits.{rowLimit}
 use Rattle.checks.specs.Table.{Table, recordCount, recordOf}
 use Rattle.checks.specs.Checks.{rowShapeFaults, wordFaults, recordChecks}

@@ -5,7 +5,7 @@ ghost use Prim.Native.Nat.{_≤_};
 ghost use lib.ListN.{length};
 ghost use Rattle.checks.specs.Limits.{rowLimit};
 ghost use Rattle.checks.specs.Check.{placed};
-ghost use Rattle.checks.specs.Checks.{rowShapeFaults, wordFaults, stretchFaults, sizeChecks, runChecks, countChecks};
+ghost use Rattle.checks.specs.Checks.{rowShapeFaults, wordFaults, stretchFaults, rowNamedFaults, sizeChecks, runChecks, countChecks};
 ghost use Rattle.checks.specs.Encoding.{RowSlices, headChecks, bodyChecks};
 ghost use Rattle.checks.specs.Model.{lent, verdictModel, judged};
 use checks::Verdict;
@@ -155,6 +155,16 @@ pub fn check_run(
     check_body(true, width, lock, mask, value, words)
 }
 
+// Check 7 of a row that a call names.
+pub fn check_row_named(width: &[u8], row: usize) -> Verdict
+    ensures { λ r. ⌜ verdictModel r ≡ judged (placed row (rowNamedFaults (lent (now (width .entry)) [] [] [] []) row)) ⌝ }
+{
+    if width.len() <= row {
+        return refuse(refusals::ROW, row);
+    }
+    Verdict::Passed
+}
+
 // What count refuses.
 pub fn check_count(width: &[u8], lock: &[u8], mask: &[u32], value: &[u32], row: usize) -> Verdict
     ensures { λ r.
@@ -175,8 +185,5 @@ pub fn check_count(width: &[u8], lock: &[u8], mask: &[u32], value: &[u32], row: 
         }
         Verdict::Passed => {}
     }
-    if width.len() <= row {
-        return refuse(refusals::ROW, row);
-    }
-    Verdict::Passed
+    check_row_named(width, row)
 }

@@ -5,14 +5,15 @@ use Prim.Native.Nat.{ℕ, suc, _-_, _≤_, _<_}
 use native.Mathlib.Nat.{add-sub-of-le, sub-self}
 use native.Mathlib.Omega.{arith}
 use Rattle.operations.specs.Record.{Effect, effectOf, effectsOf, targetWord}
-use Rattle.checks.specs.Check.{Answer, done, refused, verdict}
+use Rattle.checks.specs.Check.{done}
 use Rattle.checks.specs.Table.{State, Table, startOf, withRows, recordOf}
 use Rattle.checks.specs.Checks.{runChecks}
 use Rattle.checks.specs.Accepted.{TablePassed, Accepted}
-use Rattle.checks.proofs.Accepts.{accepted-of-answer, answer-of-accepted}
+use Rattle.checks.proofs.Accepts.{accepted-of-passed, passed-of-accepted}
 use Rattle.tables.specs.Step.{after}
-use Rattle.tables.specs.Run.{effectsAt, programOf, Ran, ranAs, runOf, pointRows, plainRun}
+use Rattle.tables.specs.Run.{effectsAt, programOf, Ran, runOf, pointRows, plainRun}
 use Rattle.tables.specs.Demand.{StateFits, CoversState, InsideState, After, Demand3}
+use Rattle.tables.proofs.Leaving.{leaving-done, leaving-passed}
 use Rattle.tables.proofs.Fits.{FitProgram, effects-fit}
 use Rattle.tables.proofs.Points.{Stretch, stretch, after-fits}
 
@@ -21,16 +22,13 @@ use Rattle.tables.proofs.Points.{Stretch, stretch, after-fits}
 pub ran-done : (t : Table) (first last : ℕ) → Accepted t first last
     → runOf t first last ≡ record { answer = done last; rows = after (programOf t) first (last - first) (startOf t) }
 unfolding runOf
-ran-done t first last A = ap (λ a. ranAs a t first) (answer-of-accepted t first last last A)
+ran-done t first last A = sym (leaving-done t (after (programOf t) first (last - first) (startOf t)) (runChecks t first last) last (passed-of-accepted t first last A))
 
 -- an answer that is a result shows acceptance
 pub accepted-of-run : (t : Table) (first last n : ℕ) → runOf t first last .answer ≡ done n → Accepted t first last
 unfolding runOf
-accepted-of-run t first last n e = accepted-of-answer t first last last n (same (verdict (runChecks t first last) last) ∙ e)
-  where
-    same : (a : Answer ℕ) → a ≡ ranAs a t first .answer
-    same (done m) = refl
-    same (refused m i) = refl
+accepted-of-run t first last n e =
+    accepted-of-passed t first last (leaving-passed t (after (programOf t) first (last - first) (startOf t)) (runChecks t first last) last n e)
 
 -- ---- what an accepted table gives
 

@@ -4,6 +4,7 @@ pub mod Put
 pub mod PutAll
 pub mod Steps
 pub mod Points
+pub mod Leaving
 pub mod Demand3
 pub mod Counts
 pub mod Lists
@@ -12,3 +13,4 @@ pub mod NamedRows
 pub mod StepLaws
 pub mod StretchLaws
 pub mod RunLaws
+pub mod FullRuns

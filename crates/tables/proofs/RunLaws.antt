@@ -1,23 +1,20 @@
 -- What run answers and leaves, from the verdict of its checks. Assumes nothing.
 use mathlib.Core.Path.{_≡_, sym, ap, _∙_, subst}
 use Prim.Native.Nat.{ℕ, _-_}
-use native.Mathlib.Omega.{arith}
-use Rattle.checks.specs.Check.{Answer, done, refused}
+use Rattle.checks.specs.Check.{done, refused}
 use Rattle.checks.specs.Table.{State, Table, startOf}
 use Rattle.checks.specs.Checks.{runChecks}
 use Rattle.checks.specs.Accepted.{Accepted}
 use Rattle.checks.specs.Model.{judged}
+use Rattle.checks.proofs.Verdicts.{not-done}
 use Rattle.checks.proofs.Accepts.{accepted-of-answer}
-use Rattle.checks.proofs.Verdicts.{refused-any}
 use Rattle.tables.specs.Step.{after}
-use Rattle.tables.specs.Run.{programOf, Ran, ranAs, runOf, pointRows}
+use Rattle.tables.specs.Run.{programOf, Ran, runOf, pointRows}
 use Rattle.tables.specs.Known.{Demand2}
 use Rattle.tables.specs.Demand.{Demand3}
+use Rattle.tables.proofs.Leaving.{leaving-refused}
 use Rattle.tables.proofs.Demand3.{ran-done, demand3}
 use Rattle.tables.proofs.Known.{demand2}
-
-pub never-done : {A : Type 0} (n i : ℕ) (a : A) → _≡_ {A = Answer A} (refused n i) (done a) → ⊥
-never-done n i a e = let z : _≡_ {A = ℕ} 0 1 = cc in omega arith
 
 -- what run's contract asks of an answer and the rows left
 abbrev pub Meets : Table → ℕ → ℕ → Ran → Type 0
@@ -29,8 +26,8 @@ module _ (t : Table) (first last : ℕ) where
   pub refused-meets : (n i : ℕ) → judged (runChecks t first last) ≡ refused n i → Meets t first last (record { answer = refused n i; rows = startOf t })
   unfolding runOf
   refused-meets n i e = (
-    sym (ap (λ (a : Answer ℕ). ranAs a t first) (refused-any (runChecks t first last) tt last n i e)),
-    (λ z. absurd (never-done n i last z), λ z. absurd (never-done n i last z)),
+    leaving-refused t (after (programOf t) first (last - first) (startOf t)) (runChecks t first last) last n i e,
+    (λ z. absurd (not-done n i last z), λ z. absurd (not-done n i last z)),
   )
 
   pub accepted-run : judged (runChecks t first last) ≡ done tt → Accepted t first last

@@ -11,7 +11,7 @@ use Rattle.operations.specs.Limits.{recordWords}
 use Rattle.operations.specs.declared.Record.{Record}
 use Rattle.operations.specs.Record.{wordsOf, effectsOf}
 use Rattle.checks.specs.Table.{State, Table, startOf, recordOf}
-use Rattle.checks.specs.Accepted.{RecordPassed, Accepted}
+use Rattle.checks.specs.Accepted.{RecordPassed, TablePassed, Accepted}
 use Rattle.checks.specs.Model.{lent}
 use Rattle.tables.specs.Step.{Program, step, after}
 use Rattle.tables.specs.Run.{programOf}
@@ -50,6 +50,17 @@ module _ (widths part : List ℕ) (s₀ : State) (R : StretchReady widths s₀ p
 
 -- ---- the part of the words that a stretch is
 
+-- what a table that passed gives it, from rows that fit
+pub stretch-ready : (t : Table) → TablePassed t → (s : State) → StateFits (t .widths) s → (part : List ℕ)
+    → ((i : ℕ) → i < length part / recordWords → RecordPassed (t .widths) (take recordWords (drop (recordWords * i) part))) → StretchReady (t .widths) s part
+stretch-ready t P s S part R =
+    record {
+      some-row = P .rows-least;
+      wide = λ i h. (P .row-passed i h .width-least, P .row-passed i h .width-most);
+      fits = S;
+      passed = R;
+    }
+
 -- programs whose records have the same effects leave the same rows
 after-same : (P Q : Program) (first n : ℕ) (s : State) → P .widths ≡ Q .widths → ((j : ℕ) → j < n → P .effects (0 + j) ≡ Q .effects (first + j)) → after P 0 n s ≡ after Q first n s
 unfolding after
@@ -78,15 +89,11 @@ module _ (t : Table) (first last : ℕ) (A : Accepted t first last) where
 
   pub part-ready : StretchReady (t .widths) (startOf t) part
   part-ready =
-      record {
-        some-row = A .table .rows-least;
-        wide = λ i h. (A .table .row-passed i h .width-least, A .table .row-passed i h .width-most);
-        fits = start-fits t (A .table);
-        passed = λ j h.
-            let e = part-count in
-            let w = A .within in
-            subst (RecordPassed (t .widths)) (sym (part-record j (omega arith))) (A .table .record-passed (first + j) (omega arith));
-      }
+      stretch-ready t (A .table) (startOf t) (start-fits t (A .table)) part
+      (λ j h.
+      let e = part-count in
+      let w = A .within in
+      subst (RecordPassed (t .widths)) (sym (part-record j (omega arith))) (A .table .record-passed (first + j) (omega arith)))
 
   -- stepping through the part leaves the rows of the stretch
   pub part-after : after (programOf (lent (t .widths) [] [] [] part)) 0 (length part / recordWords) (startOf t) ≡ after (programOf t) first (last - first) (startOf t)

@@ -14,7 +14,7 @@ use table_checks::check_count;
 use table_checks::check_run;
 ghost use Rattle.tables.specs.Model.{held, runModel, ran, countModel};
 
-mod stepping; // stepping.rt: what records do to the rows
+pub mod stepping; // stepping.rt: what records do to the rows
 
 // The unknown bits u of a row, and 2^u.
 pub enum CountAnswer {

@@ -64,7 +64,7 @@ fn answers(answer: RunAnswer, number: u32) -> bool {
 }
 
 // Whether the words are the same.
-fn same(a: &[u32; 4], b: &[u32; 4]) -> bool {
+pub fn same(a: &[u32; 4], b: &[u32; 4]) -> bool {
     let mut k: usize = 0;
     while k < 4 {
         if a[k] != b[k] {

@@ -1,9 +1,11 @@
 -- The laws and proofs of `vectors`.
 pub mod Lists
+pub mod ListParts
 pub mod Rows
 pub mod Choices
 pub mod Operands
 pub mod Hulls
+pub mod Insides
 pub mod Joins
 pub mod Bests
 pub mod BestLaws

@@ -1,15 +1,13 @@
 -- `table_checks::check_count` meets its contract: checks 1 and 2, the rows, then 7 for the row named. Assumes nothing.
 use mathlib.Core.Path.{_≡_, sym, ap, _∙_}
-use mathlib.Core.List.{List, [], _∷_, _++_}
+use mathlib.Core.List.{List, [], _++_}
 use Rattle.checks.specs.Check.{Check, placed}
 use Rattle.checks.specs.Table.{Table}
-use Rattle.checks.specs.Checks.{rowShapeFaults, rowChecks, countChecks, rowOutside}
+use Rattle.checks.specs.Checks.{rowShapeFaults, rowChecks, countChecks, rowNamedFaults}
 use Rattle.checks.specs.Model.{lent, verdictModel, judged}
-use Rattle.checks.proofs.Verdicts.{passed-of-done, hits, clears}
+use Rattle.checks.proofs.Verdicts.{passed-of-done}
 use Rattle.checks.proofs.VerdictParts.{goes-on, stops}
 use Rattle.table_checks.proofs.HeadBody.{slices-of-shape}
-use Rattle.operations.specs.Record.{fault}
-use borrow.Author.Tests.{le-leb, lt-leb}
 use borrow.Author.Needs.{needs}
 use Rattle.table_checks.proofs.check_count.Statement.{statement}
 use Rattle.table_checks.proofs.check_count.Tie as tie
@@ -21,7 +19,7 @@ abbrev shape : tie.Start → List Check
 shape s = placed 0 (rowShapeFaults (table s))
 
 abbrev seven : tie.Start → List Check
-seven s = placed (s .args .row) (fault (rowOutside (table s) (s .args .row)) 7 ∷ [])
+seven s = placed (s .args .row) (rowNamedFaults (table s) (s .args .row))
 
 abbrev start : tie.After-check-shape → tie.Start
 start c = c .before .before .before .before .before
@@ -61,10 +59,7 @@ past-rows c =
     past-shape (g .before) ∙ goes-on (g .check-rows .result) (rowChecks (table s)) (seven s) (g .check-rows .ensures) (c .enum-told4 .given .1)
 
 returns-3 : tie.Need-returns-3
-returns-3 c = c .refuse .ensures ∙ sym (past-rows (c .before .before) ∙ hits _ _ (le-leb _ _ (c .before .if1 .taken)))
-
-returns-4 : tie.Need-returns-4
-returns-4 c = sym (past-rows (c .before) ∙ clears _ (lt-leb _ _ (c .if1 .left)))
+returns-3 c = c .check-row-named .ensures ∙ sym (past-rows (c .before))
 
 pub check-count-spec : {M : Type 1} → statement M
 check-count-spec =
@@ -79,5 +74,4 @@ check-count-spec =
     returns-2
     (λ c. search needs)
     (λ c κs. search needs)
-    returns-3
-    returns-4)
+    returns-3)

@@ -1,0 +1,3 @@
+-- The definitions of `reset_search`.
+pub mod Pass
+pub mod Encoding

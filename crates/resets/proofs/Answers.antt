@@ -1,0 +1,116 @@
+-- What reset_bits' checks give, passed or not, and what it then answers and leaves. Assumes nothing.
+use mathlib.Core.Path.{_≡_, refl, sym, ap, _∙_, subst, subst₂}
+use mathlib.Core.Bool.{not}
+use mathlib.Core.Logic.{_≢_, inl, inr}
+use mathlib.Core.List.{List, [], _∷_, _++_}
+use Prim.Native.Nat.{ℕ, _≤_}
+use native.Mathlib.Omega.{arith}
+use lib.Dec.{T, T-not, nleb→lt}
+use lib.ListN.{length}
+use Rattle.bits.specs.Bit.{bit, isSet}
+use Rattle.bits.proofs.Bits.{bit-lt, bit-cases}
+use Rattle.bits.proofs.Numbers.{isSet-true, isSet-false}
+use Rattle.operations.specs.Record.{widthAt}
+use Rattle.checks.specs.Check.{done, refused, Check, verdict, placed, Passed}
+use Rattle.checks.specs.Table.{State, Table, startOf, recordCount}
+use Rattle.checks.specs.Checks.{bitFaults, rowNamedFaults, runChecks}
+use Rattle.checks.specs.Limits.{rowLimit}
+use Rattle.checks.specs.Model.{judged}
+use Rattle.checks.proofs.Verdicts.{passed-append, passed-left, passed-right, passed-of-done, done-same, hits, clears, verdict-passed, verdict-refused}
+use Rattle.checks.proofs.Accepts.{accepted-of-passed}
+use Rattle.tables.specs.Step.{after}
+use Rattle.tables.specs.Run.{Ran, programOf, fullRun}
+use Rattle.tables.specs.Encoding.{StretchReady}
+use Rattle.tables.proofs.Leaving.{leaving-done, leaving-refused, leaving-passed}
+use Rattle.tables.proofs.Demand3.{start-fits}
+use Rattle.tables.proofs.FullRuns.{full-ready, full-after}
+use Rattle.reset_search.specs.Pass.{ended, passRows}
+use Rattle.resets.specs.Reset.{conclusion, valueOf, unknownFaults, namingChecks, resetChecks, resetOf, RestsOn}
+use Rattle.resets.specs.Encoding.{Named, RoomFor}
+use Rattle.resets.proofs.Rests.{rests-on}
+
+unset : (n k : ℕ) → T (not (isSet n k)) → bit n k ≡ 0
+unset n k u = elim (bit-cases n k) [ inl e ↦ e | inr e ↦ absurd (T-not (isSet n k) u (subst T (sym (isSet-true n k e)) tt)) ]
+
+-- room for the most rows is room for those of a table that passed
+pub room-for : (widths rm rv : List ℕ) → length widths ≤ rowLimit → length rm ≡ rowLimit → length rv ≡ rowLimit → RoomFor widths rm rv
+room-for widths rm rv h m v = record { masks = omega arith; values = omega arith }
+
+module _ (t : Table) (i k : ℕ) where
+  abbrev row-checks : List Check
+  row-checks = placed i (rowNamedFaults t i)
+
+  abbrev bit-checks : List Check
+  bit-checks = placed 0 (bitFaults (widthAt (t .widths) i) k)
+
+  abbrev last-checks : List Check
+  last-checks = placed 0 (unknownFaults t i k)
+
+  -- ---- the table, the row and the bit named
+
+  named-of-passed : Passed (namingChecks t i k) → Named t i k
+  unfolding namingChecks
+  named-of-passed P =
+      let Q = passed-right (runChecks t 0 (recordCount t)) (row-checks ++ bit-checks) P in
+      record {
+        passed = P;
+        accepted = accepted-of-passed t 0 (recordCount t) (passed-left (runChecks t 0 (recordCount t)) (row-checks ++ bit-checks) P);
+        in-table = record { row-in = nleb→lt _ _ (passed-left row-checks bit-checks Q .0); at-in = nleb→lt _ _ (passed-right row-checks bit-checks Q .0) };
+      }
+
+  pub named-of-answer : judged (namingChecks t i k) ≡ done tt → Named t i k
+  named-of-answer e = named-of-passed (passed-of-done (namingChecks t i k) tt tt e)
+
+  module _ (N : Named t i k) where
+    -- ---- a full run from rows that are copies of those lent
+
+    pub copies-ready : (q : State) → q ≡ startOf t → StretchReady (t .widths) q (t .words)
+    copies-ready q e = subst (λ (x : State). StretchReady (t .widths) x (t .words)) (sym e) (full-ready t (N .accepted) (startOf t) (start-fits t (N .accepted .table)))
+
+    pub copies-ran : (q ran : State) → q ≡ startOf t → ran ≡ after (programOf t) 0 (recordCount t) q → ran ≡ fullRun t (startOf t)
+    copies-ran q ran e f = f ∙ ap (after (programOf t) 0 (recordCount t)) e ∙ full-after t (N .accepted) (startOf t) (start-fits t (N .accepted .table))
+
+    -- ---- what is answered then
+
+    -- the bit ends X
+    pub unknown-refused : bit (ended t i (startOf t) .mask) k ≢ 0 → _≡_ {A = Ran} (record { answer = refused 19 0; rows = startOf t }) (resetOf t i k)
+    unfolding resetOf resetChecks
+    unknown-refused e =
+        leaving-refused t _ (resetChecks t i k) (valueOf t i k) 19 0
+        (verdict-passed (namingChecks t i k) last-checks tt (N .passed) ∙ hits _ [] (isSet-true (ended t i (startOf t) .mask) k (let l = bit-lt (ended t i (startOf t) .mask) k in omega arith)))
+
+    -- it ends known
+    pub known-done : bit (ended t i (startOf t) .mask) k ≡ 0 → (b : ℕ) → b ≡ valueOf t i k → (rows : State) → rows ≡ passRows t (conclusion i k b)
+        → _≡_ {A = Ran} (record { answer = done b; rows = rows }) (resetOf t i k)
+    unfolding resetOf resetChecks
+    known-done e b f rows g =
+        (λ ι. record { answer = done (f ι); rows = (g ∙ ap (λ (x : ℕ). passRows t (conclusion i k x)) f) ι })
+        ∙ leaving-done t (passRows t (conclusion i k (valueOf t i k))) (resetChecks t i k) (valueOf t i k)
+        (passed-append (namingChecks t i k) last-checks (N .passed) (passed-of-done last-checks tt tt (clears _ (isSet-false (ended t i (startOf t) .mask) k e))))
+
+  -- a refusal before that
+  pub naming-refused : (n j : ℕ) → judged (namingChecks t i k) ≡ refused n j → _≡_ {A = Ran} (record { answer = refused n j; rows = startOf t }) (resetOf t i k)
+  unfolding resetOf resetChecks
+  naming-refused n j e =
+      leaving-refused t _ (resetChecks t i k) (valueOf t i k) n j (verdict-refused (namingChecks t i k) last-checks tt tt n j e)
+
+  -- ---- the claim, of every call that is answered
+
+  rests-of-answer : (b : ℕ) → resetOf t i k .answer ≡ done b → RestsOn t (conclusion i k b) (resetOf t i k .rows)
+  unfolding resetOf resetChecks
+  rests-of-answer b e =
+      let start = passRows t (conclusion i k (valueOf t i k)) in
+      let P = leaving-passed t start (resetChecks t i k) (valueOf t i k) b e in
+      let N = named-of-passed (passed-left (namingChecks t i k) last-checks P) in
+      let left = leaving-done t start (resetChecks t i k) (valueOf t i k) P in
+      let value = done-same (valueOf t i k) b (ap (λ (r : Ran). r .answer) left ∙ e) in
+      subst₂ (λ (x : ℕ) (r : State). RestsOn t (conclusion i k x) r) value (ap (λ (r : Ran). r .rows) left)
+      (rests-on t (N .accepted) (conclusion i k (valueOf t i k)) (N .in-table)
+      (record { known = unset (ended t i (startOf t) .mask) k (passed-right (namingChecks t i k) last-checks P .0); as-value = refl }))
+
+  -- what the contract asks of an answer and the rows left
+  abbrev pub Meets : Ran → Type 0
+  Meets a = (a ≡ resetOf t i k) × ((b : ℕ) → a .answer ≡ done b → RestsOn t (conclusion i k b) (a .rows))
+
+  pub meets : (a : Ran) → a ≡ resetOf t i k → Meets a
+  meets a e = subst Meets (sym e) (refl, rests-of-answer)

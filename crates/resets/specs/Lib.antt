@@ -1,0 +1,4 @@
+-- The definitions of `resets`.
+pub mod Reset
+pub mod Model
+pub mod Encoding
