@@ -136,6 +136,6 @@ int main(void)
 
     if (!load(reset))
         return 1;
-    resets(); // 00XXXXXX and XX00XXXX: four resets of sixteen
+    resets(); // 00XXXXXX and XX00XXXX: four resets of twenty-four
     return 0;
 }

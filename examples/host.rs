@@ -140,7 +140,7 @@ op\tadd\t3\t0\t3\t0
 fn resets() -> Result<(), Refusal> {
     let mut t = Table::read(RESET.as_bytes())?;
     println!("bit 7 of row 3 is {} by these start bits:", t.reset_bits(3, 7)?);
-    print!("{}", t.text()?); // 00XXXXXX and XX00XXXX: four resets of sixteen
+    print!("{}", t.text()?); // 00XXXXXX and XX00XXXX: four resets of twenty-four
     Ok(())
 }
 

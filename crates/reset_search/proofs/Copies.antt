@@ -1,6 +1,6 @@
 -- A list copied over another, entry by entry. Assumes nothing.
 --   Copied from to i   the entries before i are copied
-use mathlib.Core.Path.{_≡_, refl, sym, ap, _∙_}
+use mathlib.Core.Path.{_≡_, sym, ap, _∙_}
 use mathlib.Core.List.{List}
 use Prim.Native.Nat.{ℕ, _+_, _≤_, _<_}
 use native.Mathlib.Decide.{ℕ-discrete}

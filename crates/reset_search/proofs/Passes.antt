@@ -1,7 +1,7 @@
 -- The loops of the pass: open rows rising, and of each row bits rising. Assumes nothing.
 --   AtBit t c i k s   the loop over the bits of row i at bit k;   AtRow t c i s   the loop over the rows at row i:
 --                     t has the rows as lent, s are the rows as they then are
-use mathlib.Core.Path.{_≡_, refl, sym, ap, _∙_, subst}
+use mathlib.Core.Path.{_≡_, sym, ap, _∙_, subst}
 use mathlib.Core.Logic.{_≢_}
 use mathlib.Core.List.{List, _++_}
 use Prim.Native.Nat.{ℕ, suc, _+_, _-_, _≤_, _<_}

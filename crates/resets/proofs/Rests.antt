@@ -1,26 +1,27 @@
 -- What the pass leaves: the conclusion holds from it, and no bit that was visited can become X without losing it. Assumes nothing.
-use mathlib.Core.Path.{_≡_, refl, sym, ap, _∙_, subst}
-use mathlib.Core.Bool.{_&&_}
+use mathlib.Core.Path.{_≡_, refl, sym, _∙_, subst}
 use mathlib.Core.Logic.{_≢_}
 use mathlib.Core.List.{List, [], _∷_}
-use Prim.Native.Nat.{ℕ, _<_}
+use Prim.Native.Nat.{ℕ}
 use native.Mathlib.Omega.{arith}
 use lib.Dec.{T, eqb, eqb→eq}
-use lib.ListN.{length, getD}
+use lib.ListN.{getD}
 use Rattle.bits.specs.Bit.{bit}
 use Rattle.bits.proofs.Bools.{T-and, T-left, T-right, eq→eqb}
 use Rattle.vectors.specs.Lists.{All}
 use Rattle.vectors.proofs.Insides.{inside-known}
-use Rattle.checks.specs.Table.{State, rowAt, Table, startOf, recordCount}
+use Rattle.checks.specs.Table.{State, rowAt, Table, startOf, withRows, recordCount}
+use Rattle.checks.specs.Check.{done}
 use Rattle.checks.specs.Accepted.{Accepted}
+use Rattle.tables.specs.Run.{runOf}
 use Rattle.tables.specs.Demand.{StateFits, InsideState}
 use Rattle.tables.proofs.Demand3.{start-fits}
 use Rattle.tables.proofs.FullRuns.{full-demand3}
 use Rattle.reset_search.specs.declared.Conclusion.{Conclusion}
-use Rattle.reset_search.specs.Pass.{ended, Concludes, concludesb, Position, forget, knownAt, bitsIn, openBits, visit, walk, passRows}
+use Rattle.reset_search.specs.Pass.{ended, Concludes, concludesb, Position, forget, knownAt, openBits, visit, walk, passRows}
 use Rattle.reset_search.specs.Encoding.{InTable}
 use Rattle.reset_search.proofs.Forgets.{forget-fits}
-use Rattle.reset_search.proofs.Visits.{spares, visit-cases}
+use Rattle.reset_search.proofs.Visits.{visit-cases}
 use Rattle.reset_search.proofs.OpenBits.{open-all, open-found}
 use Rattle.resets.specs.Reset.{RestsOn}
 use Rattle.resets.proofs.Wider.{forget-others, forget-wider, forget-inside, known-inside, forget-unknown}
@@ -118,6 +119,9 @@ module _ (t : Table) (A : Accepted t 0 (recordCount t)) (c : Conclusion) (C : In
   start : StateFits (t .widths) (startOf t)
   start = start-fits t (A .table)
 
+  accepted-run : (s : State) → StateFits (t .widths) s → runOf (withRows t s) 0 (recordCount t) .answer ≡ done (recordCount t)
+  accepted-run s S = full-demand3 t A s S .points (recordCount t) (omega arith) (omega arith)
+
   pub rests-on : RestsOn t c (passRows t c)
   rests-on =
       let g = walk-keeps t A c C (openBits t) bits-in (startOf t) start h in
@@ -126,8 +130,9 @@ module _ (t : Table) (A : Accepted t 0 (recordCount t)) (c : Conclusion) (C : In
         fits = g .fits;
         wider = g .wider;
         locked-stay = λ i d. walk-others t c i (openBits t) (open-all (λ p. p .row ≢ i) t (λ j k l o m e. d (subst (λ (x : ℕ). getD (t .locks) x 0 ≡ 0) e o))) (startOf t);
-        accepted = full-demand3 t A (passRows t c) (g .fits) .points (recordCount t) (omega arith) (omega arith);
+        accepted = accepted-run (passRows t c) (g .fits);
         holds = g .holds;
+        further-accepted = λ p K. accepted-run (forget (t .widths) (passRows t c) p) (forget-fits (t .widths) (passRows t c) (g .fits) p (record { row-in = K .row-in; at-in = K .at-in }));
         no-further = λ p K.
             open-found (λ p. T (knownAt (passRows t c) p) → ¬ Concludes t c (forget (t .widths) (passRows t c) p)) t (walk-needs t A c C (openBits t) bits-in (startOf t) start h)
             (p .row) (p .at) (K .row-in) (K .is-open) (K .at-in) (K .known);

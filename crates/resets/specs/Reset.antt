@@ -59,7 +59,8 @@ pub record KnownOpen (t : Table) (s : State) (p : Position) : Type 0 where
 
 -- concluded: from the rows as lent the conclusion holds.  fits, wider: the rows left are well formed, and each start row lies inside its left row.
 -- locked-stay: locked rows are as lent.  accepted, holds: from the rows left a full run is accepted, and "the conclusion holds from them".
--- no-further: "no further known bit of an open row can become X without losing it".
+-- further-accepted, no-further: with one more known bit of an open row X a full run is accepted too, and the conclusion does not hold: "no further known bit
+-- of an open row can become X without losing it".
 pub record RestsOn (t : Table) (c : Conclusion) (rows : State) : Type 0 where
   pub concluded : Concludes t c (startOf t)
   pub fits : StateFits (t .widths) rows
@@ -67,4 +68,5 @@ pub record RestsOn (t : Table) (c : Conclusion) (rows : State) : Type 0 where
   pub locked-stay : (i : ℕ) → getD (t .locks) i 0 ≢ 0 → rowAt (t .widths) rows i ≡ rowAt (t .widths) (startOf t) i
   pub accepted : runOf (withRows t rows) 0 (recordCount t) .answer ≡ done (recordCount t)
   pub holds : Concludes t c rows
+  pub further-accepted : (p : Position) → KnownOpen t rows p → runOf (withRows t (forget (t .widths) rows p)) 0 (recordCount t) .answer ≡ done (recordCount t)
   pub no-further : (p : Position) → KnownOpen t rows p → ¬ Concludes t c (forget (t .widths) rows p)

@@ -5,15 +5,15 @@ use Prim.Native.Nat.{ℕ, suc, _-_, _≤_, _<_}
 use native.Mathlib.Nat.{add-sub-of-le, sub-self}
 use native.Mathlib.Omega.{arith}
 use Rattle.operations.specs.Record.{Effect, effectOf, effectsOf, targetWord}
-use Rattle.checks.specs.Check.{done}
+use Rattle.checks.specs.Check.{Answer, done}
 use Rattle.checks.specs.Table.{State, Table, startOf, withRows, recordOf}
 use Rattle.checks.specs.Checks.{runChecks}
 use Rattle.checks.specs.Accepted.{TablePassed, Accepted}
-use Rattle.checks.proofs.Accepts.{accepted-of-passed, passed-of-accepted}
+use Rattle.checks.proofs.Accepts.{accepted-of-passed, answer-of-accepted}
 use Rattle.tables.specs.Step.{after}
-use Rattle.tables.specs.Run.{effectsAt, programOf, Ran, runOf, pointRows, plainRun}
+use Rattle.tables.specs.Run.{effectsAt, programOf, Ran, leaving, runOf, pointRows, plainRun}
 use Rattle.tables.specs.Demand.{StateFits, CoversState, InsideState, After, Demand3}
-use Rattle.tables.proofs.Leaving.{leaving-done, leaving-passed}
+use Rattle.tables.proofs.Leaving.{leaving-passed}
 use Rattle.tables.proofs.Fits.{FitProgram, effects-fit}
 use Rattle.tables.proofs.Points.{Stretch, stretch, after-fits}
 
@@ -22,7 +22,7 @@ use Rattle.tables.proofs.Points.{Stretch, stretch, after-fits}
 pub ran-done : (t : Table) (first last : ℕ) → Accepted t first last
     → runOf t first last ≡ record { answer = done last; rows = after (programOf t) first (last - first) (startOf t) }
 unfolding runOf
-ran-done t first last A = sym (leaving-done t (after (programOf t) first (last - first) (startOf t)) (runChecks t first last) last (passed-of-accepted t first last A))
+ran-done t first last A = ap (λ (a : Answer ℕ). leaving a t (after (programOf t) first (last - first) (startOf t))) (answer-of-accepted t first last last A)
 
 -- an answer that is a result shows acceptance
 pub accepted-of-run : (t : Table) (first last n : ℕ) → runOf t first last .answer ≡ done n → Accepted t first last

@@ -5,7 +5,7 @@ use Prim.Native.Nat.{ℕ}
 use Rattle.checks.specs.Check.{Answer, done, refused, Check, verdict, Passed}
 use Rattle.checks.specs.Table.{State, Table, startOf}
 use Rattle.checks.specs.Model.{judged}
-use Rattle.checks.proofs.Verdicts.{done-of-passed, passed-of-done, refused-any, done-same}
+use Rattle.checks.proofs.Verdicts.{done-of-passed, passed-of-done, refused-any}
 use Rattle.tables.specs.Run.{Ran, leaving}
 
 module _ (t : Table) (s : State) where

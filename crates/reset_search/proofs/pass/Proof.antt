@@ -1,7 +1,7 @@
 -- `reset_search::pass` meets its contract: row by row. Assumes nothing.
 use native.Mathlib.Omega.{arith}
-use mathlib.Core.Path.{_≡_, sym, _∙_}
-use Prim.Native.Nat.{ℕ, _-_}
+use mathlib.Core.Path.{sym, _∙_}
+use Prim.Native.Nat.{_-_}
 use lib.ListN.{length}
 use Rattle.checks.specs.Table.{Table}
 use Rattle.checks.specs.Model.{lent}
@@ -9,7 +9,6 @@ use Rattle.tables.specs.Model.{held}
 use Rattle.tables.proofs.Demand3.{start-fits}
 use Rattle.reset_search.specs.Encoding.{TrialRows}
 use Rattle.reset_search.proofs.Passes.{pass-ready, AtRow, row-start, row-next, row-end}
-use borrow.Author.Needs.{needs}
 use Rattle.reset_search.proofs.pass.Statement.{statement}
 use Rattle.reset_search.proofs.pass.Tie as tie
 

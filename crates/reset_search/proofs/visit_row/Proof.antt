@@ -1,7 +1,7 @@
 -- `reset_search::visit_row` meets its contract: a locked row is left alone, else its bits are visited, rising. Assumes nothing.
 use native.Mathlib.Omega.{arith}
-use mathlib.Core.Path.{_≡_, sym, _∙_}
-use Prim.Native.Nat.{ℕ, _-_, _≤_}
+use mathlib.Core.Path.{sym, _∙_}
+use Prim.Native.Nat.{_-_}
 use lib.ListN.{length}
 use Rattle.checks.specs.Table.{Table}
 use Rattle.checks.specs.Model.{lent}

@@ -1,7 +1,7 @@
 -- `resets::check_naming` meets its contract: run's checks, 7 of the row named, then 15 of the bit. Assumes nothing.
 use mathlib.Core.Path.{_≡_, sym, ap, _∙_}
 use mathlib.Core.List.{List, _++_}
-use Prim.Native.Nat.{ℕ, _<_}
+use Prim.Native.Nat.{ℕ}
 use lib.Dec.{nleb→lt}
 use lib.ListN.{length}
 use Rattle.operations.specs.Record.{widthAt}

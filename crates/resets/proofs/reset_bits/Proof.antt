@@ -1,5 +1,5 @@
 -- `resets::reset_bits` meets its contract: what the checks refuse, or what the pass with room of its own answers and leaves. Assumes nothing.
-use mathlib.Core.Path.{_≡_, refl, sym, ap, _∙_}
+use mathlib.Core.Path.{refl, sym, ap, _∙_}
 use Rattle.checks.specs.Table.{Table}
 use Rattle.checks.specs.Model.{lent, verdictModel}
 use Rattle.resets.specs.Encoding.{Named}

@@ -1,7 +1,7 @@
 -- `resets::reset_with` meets its contract: a full run on the trial rows tells how the bit ends, then the pass. Assumes nothing.
 use native.Mathlib.Omega.{arith}
 use mathlib.Core.Path.{_≡_, sym, ap, _∙_}
-use Prim.Native.Nat.{ℕ, _<_}
+use Prim.Native.Nat.{_<_}
 use lib.ListN.{getD}
 use Rattle.bits.specs.Bit.{bit}
 use Rattle.checks.specs.Table.{State, Table, startOf}
