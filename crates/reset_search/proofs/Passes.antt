@@ -15,11 +15,12 @@ use Rattle.operations.specs.Record.{widthAt}
 use Rattle.checks.specs.Table.{State, Table, startOf, withRows}
 use Rattle.tables.specs.Demand.{StateFits}
 use Rattle.tables.proofs.FullRuns.{accepted-from, full-ready}
-use Rattle.reset_search.specs.declared.Conclusion.{Conclusion}
-use Rattle.reset_search.specs.Pass.{position, bitsIn, visit, walk, passRows}
-use Rattle.reset_search.specs.Encoding.{InTable, TrialRows, TrialReady, PassReady}
-use Rattle.reset_search.proofs.OpenBits.{row-all}
-use Rattle.reset_search.proofs.Visits.{visit-fits, visit-same, walk-fits, walk-append, walk-same}
+use Rattle.conclusions.specs.declared.Conclusion.{Conclusion}
+use Rattle.conclusions.specs.Pass.{position, bitsIn, visit, walk, passRows}
+use Rattle.conclusions.specs.Encoding.{InTable, TrialRows}
+use Rattle.reset_search.specs.Encoding.{TrialReady, PassReady}
+use Rattle.conclusions.proofs.OpenBits.{row-all}
+use Rattle.conclusions.proofs.Visits.{visit-fits, visit-same, walk-fits, walk-append, walk-same}
 
 module _ (t : Table) (c : Conclusion) where
   -- ---- the bits of a row from bit k on

@@ -15,10 +15,10 @@ use Rattle.tables.specs.Encoding.{StretchReady}
 use Rattle.tables.specs.Demand.{StateFits}
 use Rattle.tables.proofs.Demand3.{start-fits}
 use Rattle.tables.proofs.FullRuns.{full-after}
-use Rattle.reset_search.specs.declared.Conclusion.{Conclusion}
-use Rattle.reset_search.specs.Pass.{concludesb, position, forget}
-use Rattle.reset_search.specs.Encoding.{InTable}
-use Rattle.reset_search.proofs.Forgets.{forget-fits}
+use Rattle.conclusions.specs.declared.Conclusion.{Conclusion}
+use Rattle.conclusions.specs.Pass.{concludesb, position, forget}
+use Rattle.conclusions.specs.Encoding.{InTable}
+use Rattle.conclusions.proofs.Forgets.{forget-fits}
 
 module _ (widths : List ℕ) (s : State) (words : List ℕ) (R : StretchReady widths s words) where
   -- a bit of the table is a bit of a word

@@ -1,3 +1,2 @@
 -- The definitions of `reset_search`.
-pub mod Pass
 pub mod Encoding

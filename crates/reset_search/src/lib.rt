@@ -1,73 +1,23 @@
-// Which reset bits a conclusion rests on (02, request 9): the pass, for a caller that has checked.
+// Which start bits a conclusion rests on (02, request 9): the pass, for a caller that has checked.
 ghost use mathlib.Core.Path.{_≡_};
-ghost use mathlib.Core.Bool.{_&&_};
 ghost use mathlib.Core.List.{List};
 ghost use Prim.Native.Nat.{ℕ, _<_};
-ghost use lib.Dec.{eqb};
 ghost use lib.ListN.{length};
-ghost use Rattle.bits.specs.Bit.{bit};
 ghost use Rattle.checks.specs.Accepted.{Accepted};
 ghost use Rattle.checks.specs.Table.{startOf, recordCount};
 ghost use Rattle.checks.specs.Model.{lent};
 ghost use Rattle.tables.specs.Model.{held};
-ghost use Rattle.reset_search.specs.Encoding.{Copyable, InTable, TrialReady, PassReady};
-ghost use Rattle.reset_search.specs.Pass as Pass;
-ghost use Rattle.reset_search.specs.Pass.{position, bitsIn, concludesb, walk, passRows};
+ghost use Rattle.conclusions.specs.Encoding.{InTable};
+ghost use Rattle.conclusions.specs.Pass as Pass;
+ghost use Rattle.conclusions.specs.Pass.{position, bitsIn, concludesb, walk, passRows};
+ghost use Rattle.reset_search.specs.Encoding.{TrialReady, PassReady};
 use bits::wide;
+use conclusions::Conclusion;
+use conclusions::bit_at;
+use conclusions::copy_rows;
+use conclusions::forget;
+use conclusions::holds;
 use tables::stepping::step_all;
-
-// A conclusion: a bit of a row that a full run leaves known, and its value.
-pub struct Conclusion {
-    pub row: usize,
-    pub at: u32,
-    pub value: u32,
-}
-
-// Bit k of a word.
-pub fn bit_at(x: u32, k: u32) -> u32
-    requires { ⌜ k < 32 ⌝ }
-    ensures { λ r. ⌜ r ≡ bit x k ⌝ }
-{
-    (x >> k) & 1
-}
-
-// Copies well-formed rows over others of their number. Mask and value share no bit: taking away the bits that they share makes no plain copy of it, which would
-// be compiled to a call of a function that is not the library's.
-pub fn copy_rows(mask: &[u32], value: &[u32], tmask: &mut [u32], tvalue: &mut [u32])
-    requires { ⌜ Copyable (held (now mask) (now value)) (now tmask) (now tvalue) ⌝ }
-    ensures { λ _. ⌜ held (now (tmask .exit)) (now (tvalue .exit)) ≡ held (now (mask .entry)) (now (value .entry)) ⌝ }
-{
-    let mut i: usize = 0;
-    while i < mask.len() {
-        let shared = mask[i] & value[i];
-        tmask[i] = mask[i] ^ shared;
-        tvalue[i] = value[i] ^ shared;
-        i += 1;
-    }
-}
-
-// Bit k of row i becomes X: its mask bit is 1, its value bit 0.
-fn forget(mask: &mut [u32], value: &mut [u32], i: usize, k: u32)
-    requires { ⌜ (i < length (now mask)) × (i < length (now value)) × (k < 32) ⌝ }
-    ensures { λ _.
-        let start = held (now (mask .entry)) (now (value .entry)) in
-        ⌜ ((widths : List ℕ) → held (now (mask .exit)) (now (value .exit)) ≡ Pass.forget widths start (position i k)) ⌝ }
-{
-    let one = 1u32 << k;
-    mask[i] = mask[i] | one;
-    value[i] = (value[i] | one) ^ one;
-}
-
-// Whether the conclusion is there in a row's mask and value.
-fn holds(m: u32, v: u32, c: Conclusion) -> bool
-    requires { ⌜ c .at < 32 ⌝ }
-    ensures { λ r. ⌜ r ≡ (eqb (bit m (c .at)) 0 && eqb (bit v (c .at)) (c .value)) ⌝ }
-{
-    if bit_at(m, c.at) != 0 {
-        return false;
-    }
-    bit_at(v, c.at) == c.value
-}
 
 // A trial: whether the conclusion keeps its value where bit k of row i is X. A full run from the rows as they are, on rows of its own.
 fn keeps(

@@ -1,4 +1,2 @@
 -- The laws and proofs of `resets`.
-pub mod Wider
-pub mod Rests
-pub mod Answers
+pub mod Rooms

@@ -1,4 +1,3 @@
 -- The definitions of `resets`.
-pub mod Reset
 pub mod Model
 pub mod Encoding

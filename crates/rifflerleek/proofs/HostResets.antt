@@ -8,8 +8,8 @@ use Rattle.checks.specs.Table.{Table}
 use Rattle.tables.specs.Run.{Ran}
 use Rattle.tables.specs.Model.{held}
 use Rattle.tables.proofs.Leaving.{leaving-answer}
-use Rattle.reset_search.specs.Pass.{passRows}
-use Rattle.resets.specs.Reset.{conclusion, valueOf, resetChecks, resetOf, RestsOn}
+use Rattle.conclusions.specs.Pass.{passRows}
+use Rattle.conclusions.specs.Reset.{conclusion, valueOf, resetChecks, resetOf, RestsOn}
 use Rattle.resets.specs.declared.ResetAnswer.{ResetAnswer}
 use Rattle.resets.specs.Model.{resetModel, resetRan}
 use Rattle.rifflerleek.specs.declared.Answer.{Answer as HostAnswer}

@@ -12,7 +12,7 @@ use Rattle.checks.specs.Table.{Table, recordCount, recordOf}
 use Rattle.checks.proofs.Numbered.{numbered, numbered-append, numbered-rising, refused-number}
 use Rattle.range_search.specs.Range.{rangeIn}
 use Rattle.vectors.specs.Row.{row}
-use Rattle.resets.specs.Reset.{valueOf, unknownFaults, namingChecks, resetChecks}
+use Rattle.conclusions.specs.Reset.{valueOf, unknownFaults, namingChecks, resetChecks}
 use Rattle.vector_calls.specs.Witnesses.{witnessChecks}
 use Rattle.vector_calls.specs.Ranges.{rangeChecks, rangeOf}
 

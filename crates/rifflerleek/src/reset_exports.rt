@@ -2,7 +2,7 @@
 ghost use mathlib.Core.Path.{_≡_};
 ghost use Rattle.checks.specs.Model.{lent};
 ghost use Rattle.tables.specs.Model.{held};
-ghost use Rattle.resets.specs.Reset.{conclusion, resetOf, RestsOn};
+ghost use Rattle.conclusions.specs.Reset.{conclusion, resetOf, RestsOn};
 ghost use Rattle.rifflerleek.specs.Host.{outcome, hostRan};
 use crate::Answer;
 use crate::done;

@@ -7,7 +7,7 @@ use Rattle.checks.specs.Table.{Table}
 use Rattle.checks.specs.Model.{lent}
 use Rattle.tables.specs.Model.{held}
 use Rattle.tables.proofs.Demand3.{start-fits}
-use Rattle.reset_search.specs.Encoding.{TrialRows}
+use Rattle.conclusions.specs.Encoding.{TrialRows}
 use Rattle.reset_search.proofs.Passes.{pass-ready, AtRow, row-start, row-next, row-end}
 use Rattle.reset_search.proofs.pass.Statement.{statement}
 use Rattle.reset_search.proofs.pass.Tie as tie
@@ -29,7 +29,7 @@ visit-row-requires : tie.Need-visit-row-requires Inv-loop μ-loop
 visit-row-requires c κs =
     let l = c .before .before .before .before .before .loop in
     let s = c .before .before .before .before .before .before .before .before .before .before .before .before .before in
-    (pass-ready (table s) (s .args .c) _ _ (s .pre) (held (l .mask) (l .value)) (l .inv .1 .fits) _ _ (l .inv .0), c .before .before .before .before .loop-test .taken)
+    (pass-ready (table s) (s .args .c) _ _ (s .pre) (held (l .mask) (l .value)) (l .inv .1 .fits) _ _ (l .inv .0), omega (arith, c .before .before .before .before .loop-test .taken))
 
 loop-again : tie.Need-loop-again Inv-loop μ-loop
 loop-again c =

@@ -6,9 +6,9 @@ use Rattle.bits.specs.Bit.{bit}
 use lib.ListN.{getD}
 use Rattle.checks.specs.Table.{Table, startOf}
 use Rattle.checks.specs.Model.{lent}
-use Rattle.reset_search.specs.Pass.{position}
+use Rattle.conclusions.specs.Pass.{position}
 use Rattle.reset_search.proofs.Trials.{bit-of-word, row-room}
-use Rattle.reset_search.proofs.Visits.{visit-unknown, visit-lost, visit-kept}
+use Rattle.conclusions.proofs.Visits.{visit-unknown, visit-lost, visit-kept}
 use borrow.Author.Needs.{needs}
 use Rattle.reset_search.proofs.visit.Statement.{statement}
 use Rattle.reset_search.proofs.visit.Tie as tie

@@ -8,7 +8,7 @@ use Rattle.checks.specs.Model.{lent}
 use Rattle.tables.specs.Model.{held}
 use Rattle.tables.proofs.Demand3.{start-fits}
 use Rattle.tables.proofs.FullRuns.{accepted-from}
-use Rattle.reset_search.specs.Encoding.{TrialRows}
+use Rattle.conclusions.specs.Encoding.{TrialRows}
 use Rattle.reset_search.proofs.Passes.{trial-ready, AtBit, bit-none, bit-start, bit-next, bit-end}
 use borrow.Author.Needs.{needs}
 use Rattle.reset_search.proofs.visit_row.Statement.{statement}

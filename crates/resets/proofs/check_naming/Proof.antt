@@ -11,7 +11,7 @@ use Rattle.checks.specs.Checks.{bitFaults, rowNamedFaults, runChecks}
 use Rattle.checks.specs.Model.{lent, verdictModel, judged}
 use Rattle.checks.proofs.Verdicts.{passed-of-done}
 use Rattle.checks.proofs.VerdictParts.{goes-on, stops}
-use Rattle.resets.specs.Reset.{namingChecks}
+use Rattle.conclusions.specs.Reset.{namingChecks}
 use borrow.Author.Needs.{needs}
 use Rattle.resets.proofs.check_naming.Statement.{statement}
 use Rattle.resets.proofs.check_naming.Tie as tie

@@ -9,8 +9,8 @@ use Rattle.checks.specs.Model.{lent}
 use Rattle.tables.specs.Model.{held}
 use Rattle.tables.specs.Run.{fullRun}
 use Rattle.tables.proofs.Demand3.{start-fits}
-use Rattle.reset_search.proofs.Copies.{copyable}
-use Rattle.resets.proofs.Answers.{copies-ready, copies-ran, unknown-refused, known-done}
+use Rattle.conclusions.proofs.Copies.{copyable}
+use Rattle.conclusions.proofs.Answers.{copies-ready, copies-ran, unknown-refused, known-done}
 use borrow.Author.Needs.{needs}
 use Rattle.resets.proofs.reset_with.Statement.{statement}
 use Rattle.resets.proofs.reset_with.Tie as tie

@@ -21,8 +21,8 @@ use Rattle.checks.specs.Table.{State, rowAt, Table, startOf, withRows, recordCo
 use Rattle.checks.specs.Checks.{bitFaults, rowNamedFaults, runChecks}
 use Rattle.tables.specs.Run.{Ran, leaving, runOf}
 use Rattle.tables.specs.Demand.{StateFits, InsideState}
-use Rattle.reset_search.specs.declared.Conclusion.{Conclusion}
-use Rattle.reset_search.specs.Pass.{ended, Concludes, Position, forget, knownAt, passRows}
+use Rattle.conclusions.specs.declared.Conclusion.{Conclusion}
+use Rattle.conclusions.specs.Pass.{ended, Concludes, Position, forget, knownAt, passRows}
 
 abbrev pub conclusion : ℕ → ℕ → ℕ → Conclusion
 conclusion i k b = record { row = i; at = k; value = b }

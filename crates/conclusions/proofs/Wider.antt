@@ -14,9 +14,9 @@ use Rattle.vectors.proofs.Insides.{inside-known, inside-of-known}
 use Rattle.checks.specs.Table.{State, rowAt}
 use Rattle.tables.specs.Demand.{StateFits, InsideState}
 use Rattle.tables.proofs.Put.{row-same, row-other, inside-put}
-use Rattle.reset_search.specs.Pass.{Position, forgetBit, forget, knownAt}
-use Rattle.reset_search.specs.Encoding.{InTable}
-use Rattle.reset_search.proofs.Forgets.{forget-mask-same, forget-mask-other, forget-value-other}
+use Rattle.conclusions.specs.Pass.{Position, forgetBit, forget, knownAt}
+use Rattle.conclusions.specs.Encoding.{InTable}
+use Rattle.conclusions.proofs.Forgets.{forget-mask-same, forget-mask-other, forget-value-other}
 
 -- ---- vectors
 

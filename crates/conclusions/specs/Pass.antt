@@ -21,7 +21,7 @@ use Rattle.operations.specs.Record.{widthAt}
 use Rattle.checks.specs.Table.{State, rowAt, Table, startOf}
 use Rattle.tables.specs.Step.{put}
 use Rattle.tables.specs.Run.{fullRun}
-use Rattle.reset_search.specs.declared.Conclusion.{Conclusion}
+use Rattle.conclusions.specs.declared.Conclusion.{Conclusion}
 
 -- ---- the conclusion, 02's term: "a row and a bit known after a full run", and the value that it is known as
 

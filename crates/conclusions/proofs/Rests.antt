@@ -17,14 +17,14 @@ use Rattle.tables.specs.Run.{runOf}
 use Rattle.tables.specs.Demand.{StateFits, InsideState}
 use Rattle.tables.proofs.Demand3.{start-fits}
 use Rattle.tables.proofs.FullRuns.{full-demand3}
-use Rattle.reset_search.specs.declared.Conclusion.{Conclusion}
-use Rattle.reset_search.specs.Pass.{ended, Concludes, concludesb, Position, forget, knownAt, openBits, visit, walk, passRows}
-use Rattle.reset_search.specs.Encoding.{InTable}
-use Rattle.reset_search.proofs.Forgets.{forget-fits}
-use Rattle.reset_search.proofs.Visits.{visit-cases}
-use Rattle.reset_search.proofs.OpenBits.{open-all, open-found}
-use Rattle.resets.specs.Reset.{RestsOn}
-use Rattle.resets.proofs.Wider.{forget-others, forget-wider, forget-inside, known-inside, forget-unknown}
+use Rattle.conclusions.specs.declared.Conclusion.{Conclusion}
+use Rattle.conclusions.specs.Pass.{ended, Concludes, concludesb, Position, forget, knownAt, openBits, visit, walk, passRows}
+use Rattle.conclusions.specs.Encoding.{InTable}
+use Rattle.conclusions.proofs.Forgets.{forget-fits}
+use Rattle.conclusions.proofs.Visits.{visit-cases}
+use Rattle.conclusions.proofs.OpenBits.{open-all, open-found}
+use Rattle.conclusions.specs.Reset.{RestsOn}
+use Rattle.conclusions.proofs.Wider.{forget-others, forget-wider, forget-inside, known-inside, forget-unknown}
 
 -- ---- the test of the conclusion
 

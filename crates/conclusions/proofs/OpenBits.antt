@@ -12,7 +12,7 @@ use Rattle.vectors.specs.Lists.{All}
 use Rattle.vectors.proofs.ListParts.{listed-all, all-listed, rising-all, all-rising}
 use Rattle.operations.specs.Record.{widthAt}
 use Rattle.checks.specs.Table.{Table}
-use Rattle.reset_search.specs.Pass.{Position, position, bitsIn, openBits}
+use Rattle.conclusions.specs.Pass.{Position, position, bitsIn, openBits}
 
 module _ (P : Position → Type 0) (t : Table) where
   pub row-all : (i : ℕ) → (getD (t .locks) i 0 ≡ 0 → (k : ℕ) → k < widthAt (t .widths) i → P (position i k)) → All P (bitsIn t i)

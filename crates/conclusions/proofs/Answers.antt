@@ -3,7 +3,7 @@ use mathlib.Core.Path.{_≡_, refl, sym, ap, _∙_, subst, subst₂}
 use mathlib.Core.Bool.{not}
 use mathlib.Core.Logic.{_≢_, inl, inr}
 use mathlib.Core.List.{List, [], _++_}
-use Prim.Native.Nat.{ℕ, _≤_}
+use Prim.Native.Nat.{ℕ}
 use native.Mathlib.Omega.{arith}
 use lib.Dec.{T, T-not, nleb→lt}
 use lib.ListN.{length}
@@ -14,7 +14,6 @@ use Rattle.operations.specs.Record.{widthAt}
 use Rattle.checks.specs.Check.{done, refused, Check, verdict, placed, Passed}
 use Rattle.checks.specs.Table.{State, Table, startOf, recordCount}
 use Rattle.checks.specs.Checks.{bitFaults, rowNamedFaults, runChecks}
-use Rattle.checks.specs.Limits.{rowLimit}
 use Rattle.checks.specs.Model.{judged}
 use Rattle.checks.proofs.Verdicts.{passed-append, passed-left, passed-right, passed-of-done, done-same, hits, clears, verdict-passed, verdict-refused}
 use Rattle.checks.proofs.Accepts.{accepted-of-passed}
@@ -24,17 +23,13 @@ use Rattle.tables.specs.Encoding.{StretchReady}
 use Rattle.tables.proofs.Leaving.{leaving-done, leaving-refused, leaving-passed}
 use Rattle.tables.proofs.Demand3.{start-fits}
 use Rattle.tables.proofs.FullRuns.{full-ready, full-after}
-use Rattle.reset_search.specs.Pass.{ended, passRows}
-use Rattle.resets.specs.Reset.{conclusion, valueOf, unknownFaults, namingChecks, resetChecks, resetOf, RestsOn}
-use Rattle.resets.specs.Encoding.{Named, RoomFor}
-use Rattle.resets.proofs.Rests.{rests-on}
+use Rattle.conclusions.specs.Pass.{ended, passRows}
+use Rattle.conclusions.specs.Reset.{conclusion, valueOf, unknownFaults, namingChecks, resetChecks, resetOf, RestsOn}
+use Rattle.conclusions.specs.Encoding.{Named}
+use Rattle.conclusions.proofs.Rests.{rests-on}
 
 unset : (n k : ℕ) → T (not (isSet n k)) → bit n k ≡ 0
 unset n k u = elim (bit-cases n k) [ inl e ↦ e | inr e ↦ absurd (T-not (isSet n k) u (subst T (sym (isSet-true n k e)) tt)) ]
-
--- room for the most rows is room for those of a table that passed
-pub room-for : (widths rm rv : List ℕ) → length widths ≤ rowLimit → length rm ≡ rowLimit → length rv ≡ rowLimit → RoomFor widths rm rv
-room-for widths rm rv h m v = record { masks = omega arith; values = omega arith }
 
 module _ (t : Table) (i k : ℕ) where
   abbrev row-checks : List Check

@@ -1,4 +1,4 @@
--- `reset_search::copy_rows` meets its contract: row by row, mask and value, of which no bit is taken away. Assumes nothing.
+-- `conclusions::copy_rows` meets its contract: row by row, mask and value, of which no bit is taken away. Assumes nothing.
 use mathlib.Core.Path.{_≡_, sym, ap, _∙_}
 use Prim.Native.Nat.{_-_, _≤_}
 use native.Mathlib.Omega.{arith}
@@ -6,9 +6,9 @@ use lib.ListN.{length, getD}
 use lib.Bits.{bitXor, xor-zero-r}
 use borrow.Author.Needs.{needs}
 use Rattle.tables.specs.Model.{held}
-use Rattle.reset_search.proofs.Copies.{Copied, copied-start, copied-next, copied-end}
-use Rattle.reset_search.proofs.copy_rows.Statement.{statement}
-use Rattle.reset_search.proofs.copy_rows.Tie as tie
+use Rattle.conclusions.proofs.Copies.{Copied, copied-start, copied-next, copied-end}
+use Rattle.conclusions.proofs.copy_rows.Statement.{statement}
+use Rattle.conclusions.proofs.copy_rows.Tie as tie
 
 abbrev Inv-loop : tie.InvT-loop
 Inv-loop mask value tmask₀ tvalue₀ i₀ tmask tvalue i = (length value ≡ length mask) × (i ≤ length mask) × Copied mask tmask i × Copied value tvalue i

@@ -15,8 +15,8 @@ use Rattle.vectors.specs.Row.{Row, WellFormed}
 use Rattle.checks.specs.Table.{State, rowAt}
 use Rattle.tables.specs.Demand.{StateFits}
 use Rattle.tables.proofs.Put.{fits-put}
-use Rattle.reset_search.specs.Pass.{Position, forgetBit, forget}
-use Rattle.reset_search.specs.Encoding.{InTable}
+use Rattle.conclusions.specs.Pass.{Position, forgetBit, forget}
+use Rattle.conclusions.specs.Encoding.{InTable}
 
 module _ (r : Row) (k : ℕ) where
   pub forget-mask-same : bit (forgetBit r k .mask) k ≡ 1

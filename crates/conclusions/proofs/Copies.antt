@@ -10,7 +10,7 @@ use Rattle.vectors.proofs.Rows.{and-of-apart}
 use Rattle.operations.specs.Record.{widthAt}
 use Rattle.checks.specs.Table.{State}
 use Rattle.tables.specs.Demand.{StateFits}
-use Rattle.reset_search.specs.Encoding.{Copyable, TrialRows}
+use Rattle.conclusions.specs.Encoding.{Copyable, TrialRows}
 use lib.Seq.{ext-getD, getD-set-same, getD-set-other}
 
 pub record Copied (from to : List ℕ) (i : ℕ) : Type 0 where

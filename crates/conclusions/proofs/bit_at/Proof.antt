@@ -1,8 +1,8 @@
--- `reset_search::bit_at` meets its contract: shifted down, then cut to one bit. Assumes nothing.
+-- `conclusions::bit_at` meets its contract: shifted down, then cut to one bit. Assumes nothing.
 use Rattle.bits.proofs.Words.{bit-word}
 use borrow.Author.Needs.{needs}
-use Rattle.reset_search.proofs.bit_at.Statement.{statement}
-use Rattle.reset_search.proofs.bit_at.Tie as tie
+use Rattle.conclusions.proofs.bit_at.Statement.{statement}
+use Rattle.conclusions.proofs.bit_at.Tie as tie
 
 returns : tie.Need-returns
 returns c = bit-word (c .args .x) (c .args .k)

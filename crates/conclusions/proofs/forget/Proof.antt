@@ -1,4 +1,4 @@
--- `reset_search::forget` meets its contract: the bit set in the mask, set and turned in the value. Assumes nothing.
+-- `conclusions::forget` meets its contract: the bit set in the mask, set and turned in the value. Assumes nothing.
 use mathlib.Core.Path.{ap}
 use Prim.Native.Nat.{ℕ}
 use lib.ListN.{getD, set}
@@ -6,8 +6,8 @@ use lib.Bits.{bitOr, bitXor}
 use Rattle.bits.proofs.Words.{shifted-one}
 use Rattle.tables.specs.Model.{held}
 use borrow.Author.Needs.{needs}
-use Rattle.reset_search.proofs.forget.Statement.{statement}
-use Rattle.reset_search.proofs.forget.Tie as tie
+use Rattle.conclusions.proofs.forget.Statement.{statement}
+use Rattle.conclusions.proofs.forget.Tie as tie
 
 returns : tie.Need-returns
 returns c widths =

@@ -1,9 +1,9 @@
--- `reset_search::holds` meets its contract: the mask bit is 0 and the value bit is the value. Assumes nothing.
+-- `conclusions::holds` meets its contract: the mask bit is 0 and the value bit is the value. Assumes nothing.
 use mathlib.Core.Path.{sym, _∙_}
 use borrow.Author.Tests.{ne-eqb}
 use borrow.Author.Needs.{needs}
-use Rattle.reset_search.proofs.holds.Statement.{statement}
-use Rattle.reset_search.proofs.holds.Tie as tie
+use Rattle.conclusions.proofs.holds.Statement.{statement}
+use Rattle.conclusions.proofs.holds.Tie as tie
 
 returns : tie.Need-returns
 returns c = simp (ne-eqb _ _ (c .if1 .taken), sym (c .before .bit-at .ensures))

@@ -10,10 +10,10 @@ use Rattle.bits.specs.Bit.{bit}
 use Rattle.vectors.specs.Lists.{All}
 use Rattle.checks.specs.Table.{State, Table, withRows}
 use Rattle.tables.specs.Demand.{StateFits}
-use Rattle.reset_search.specs.declared.Conclusion.{Conclusion}
-use Rattle.reset_search.specs.Pass.{concludesb, Position, forget, knownAt, visit, walk}
-use Rattle.reset_search.specs.Encoding.{InTable}
-use Rattle.reset_search.proofs.Forgets.{forget-fits}
+use Rattle.conclusions.specs.declared.Conclusion.{Conclusion}
+use Rattle.conclusions.specs.Pass.{concludesb, Position, forget, knownAt, visit, walk}
+use Rattle.conclusions.specs.Encoding.{InTable}
+use Rattle.conclusions.proofs.Forgets.{forget-fits}
 
 -- ---- one visit
 

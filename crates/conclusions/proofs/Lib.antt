@@ -1,0 +1,8 @@
+-- The laws and proofs of `conclusions`.
+pub mod Copies
+pub mod Forgets
+pub mod Visits
+pub mod OpenBits
+pub mod Wider
+pub mod Rests
+pub mod Answers

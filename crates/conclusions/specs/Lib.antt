@@ -1,0 +1,4 @@
+-- The definitions of `conclusions`.
+pub mod Pass
+pub mod Reset
+pub mod Encoding
