@@ -7,7 +7,7 @@
 --   rowShapeFaults t           1 and 2;      wordFaults t      3 without a stretch;   stretchFaults t first last   3 for a stretch
 --   rowFaults w l m v          4 and 5 of a row;  rowFaultsAt t i   of row i;   rowChecks t   of all rows
 --   widthFaults w, vectorFaults w m v   their parts: a width, and a vector of that width;   bitFaults w k   15 of a bit number
---   rowNamedFaults t i            7 of a row that a call names
+--   rowNamedFaults t i         7 of a row that a call names
 --   recordChecks t             6 to 9 of all records;          openChecks t  6 to 10 of all records
 --   runChecks, sizeChecks, countChecks   what run, size and count refuse, in order
 use mathlib.Core.Bool.{Bool, not}

@@ -29,7 +29,7 @@ use Rattle.conclusions.proofs.Wider.{forget-others, forget-wider, forge
 -- ---- the test of the conclusion
 
 module _ (t : Table) (c : Conclusion) (s : State) where
-  pub concludes-of-test : T (concludesb t c s) → Concludes t c s
+  concludes-of-test : T (concludesb t c s) → Concludes t c s
   unfolding concludesb
   concludes-of-test u =
       record {
@@ -37,7 +37,7 @@ module _ (t : Table) (c : Conclusion) (s : State) where
         as-value = eqb→eq _ _ (T-right (eqb (bit (ended t (c .row) s .mask) (c .at)) 0) _ u);
       }
 
-  pub test-of-concludes : Concludes t c s → T (concludesb t c s)
+  test-of-concludes : Concludes t c s → T (concludesb t c s)
   unfolding concludesb
   test-of-concludes h = T-and (eqb (bit (ended t (c .row) s .mask) (c .at)) 0) _ (eq→eqb (h .known)) (eq→eqb (h .as-value))
 

@@ -26,8 +26,8 @@ pub fn bit_at(x: u32, k: u32) -> u32
     (x >> k) & 1
 }
 
-// Copies well-formed rows over others of their number. Mask and value share no bit: taking away the bits that they share makes no plain copy of it, which would
-// be compiled to a call of a function that is not the library's.
+// Copies well-formed rows over others of their number. The bits that mask and value share are taken from both, and such a row has none: a plain copy would be
+// compiled to a call of a function that is not the library's.
 pub fn copy_rows(mask: &[u32], value: &[u32], tmask: &mut [u32], tvalue: &mut [u32])
     requires { ⌜ Copyable (held (now mask) (now value)) (now tmask) (now tvalue) ⌝ }
     ensures { λ _. ⌜ held (now (tmask .exit)) (now (tvalue .exit)) ≡ held (now (mask .entry)) (now (value .entry)) ⌝ }

@@ -38,7 +38,7 @@ runOf t first last = leaving (verdict (runChecks t first last) last) t (after (p
 abbrev pub pointRows : Table → ℕ → ℕ → State
 pointRows t first s = runOf t first s .rows
 
--- "after a full run" (02, requests 9, 12 and 13)
+-- "after a full run" (02, request 9)
 abbrev pub fullRun : Table → State → State
 fullRun t s = pointRows (withRows t s) 0 (recordCount t)
 
