@@ -1,6 +1,6 @@
 -- Laws of the tests over all numbers below a bound. Assumes nothing.
-use mathlib.Core.Path.{sym, subst}
-use mathlib.Core.Bool.{Bool}
+use mathlib.Core.Path.{_≡_, refl, sym, ap₂, subst}
+use mathlib.Core.Bool.{Bool, _||_}
 use mathlib.Core.Logic.{inl, inr}
 use Prim.Native.Nat.{ℕ, zero, suc, _<_}
 use native.Mathlib.Nat.{eq-or-lt-of-le, le-of-suc-le-suc, not-suc-le-zero}
@@ -26,6 +26,11 @@ someBelow-elim (suc n) p t =
       | inl h ↦ (n, omega arith, h)
       | inr h ↦ let r = someBelow-elim n p h in (r .0, omega arith, r .2)
     ]
+
+pub someBelow-ext : (n : ℕ) (p q : ℕ → Bool) → ((k : ℕ) → p k ≡ q k) → someBelow n p ≡ someBelow n q
+unfolding someBelow
+someBelow-ext zero p q e = refl
+someBelow-ext (suc n) p q e = ap₂ (λ (a b : Bool). a || b) (e n) (someBelow-ext n p q e)
 
 pub allBelow-intro : (n : ℕ) (p : ℕ → Bool) → ((k : ℕ) → k < n → T (p k)) → T (allBelow n p)
 unfolding allBelow

@@ -1,15 +1,13 @@
 -- What the checks of a table ensure of a record's effects, and of a whole program. Assumes nothing.
 --   Fit widths e             the effect's rows are in the table, and its number fits the target
---   DistinctAt target l      no two elements of l have one target
 --   FitRecord widths es      all effects of a record fit, on distinct targets
 --   FitProgram P             every record of P fits
 use mathlib.Core.Path.{_≡_, ap}
-use mathlib.Core.Logic.{_≢_}
-use mathlib.Core.List.{List, [], _∷_, map}
+use mathlib.Core.List.{List, map}
 use Prim.Native.Nat.{ℕ, _^_, _<_}
 use lib.Dec.{T}
 use lib.ListN.{length, getD}
-use Rattle.vectors.specs.Lists.{All}
+use Rattle.vectors.specs.Lists.{All, Distinct}
 use Rattle.operations.specs.Kinds.{isKind}
 use Rattle.operations.specs.Record.{Effect, widthAt, effectOf, effectsOf, rowsNamed, kindIn, targetWord, kindWord, parameterWord, namedTwice, again}
 use Rattle.operations.specs.Result.{Below}
@@ -23,13 +21,9 @@ pub record Fit (widths : List ℕ) (e : Effect) : Type 0 where
   pub operands-in : All (λ i. i < length widths) (e .operands)
   pub value-below : (ns : List ℕ) → Below (map (widthAt widths) (e .operands)) ns → e .value ns < 2 ^ widthAt widths (e .target)
 
-abbrev pub DistinctAt : {A : Type 0} → (A → ℕ) → List A → Type 0
-DistinctAt target [] = Unit {0}
-DistinctAt target (a ∷ l) = All (λ b. target b ≢ target a) l × DistinctAt target l
-
 pub record FitRecord (widths : List ℕ) (es : List Effect) : Type 0 where
   pub fit : All (Fit widths) es
-  pub distinct : DistinctAt (λ e. e .target) es
+  pub distinct : Distinct (map (λ e. e .target) es)
 
 abbrev pub FitProgram : Program → Type 0
 FitProgram P = (i : ℕ) → i < P .count → FitRecord (P .widths) (P .effects i)

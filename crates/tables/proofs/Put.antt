@@ -1,5 +1,5 @@
 -- One row put: what it leaves. Assumes nothing.
-use mathlib.Core.Path.{_≡_, sym, _∙_, subst, subst₂}
+use mathlib.Core.Path.{_≡_, refl, sym, _∙_, subst, subst₂}
 use mathlib.Core.Logic.{_≢_}
 use mathlib.Core.List.{List}
 use Prim.Native.Nat.{ℕ, _<_}
@@ -46,18 +46,25 @@ module _ (widths : List ℕ) where
         ];
       }
 
-  pub covers-put : (s : State) → StateFits widths s → (ns : List ℕ) → CoversState widths s ns → (i : ℕ) (r : Row) (n : ℕ) → r .width ≡ widthAt widths i → Covers r n → CoversState widths (put s i r) (set ns i n)
-  covers-put s S ns C i r n w c =
+  -- a number put, that its row covers, among numbers that the other rows cover
+  pub covers-set : (s : State) (ns : List ℕ) (i n : ℕ) → length ns ≡ length widths → (i < length widths → Covers (rowAt widths s i) n)
+      → ((j : ℕ) → j < length widths → j ≢ i → Covers (rowAt widths s j) (getD ns j 0)) → CoversState widths s (set ns i n)
+  covers-set s ns i n c at others =
       record {
-        count = length-set ns i n ∙ C .count;
+        count = length-set ns i n ∙ c;
         covers = λ j h. elim (ℕ-discrete j i) [
-          | yes e ↦ subst₂ Covers (sym (row-same s S i r w j e h)) (sym (number-same j e h)) c
-          | no d ↦ subst₂ Covers (sym (row-other s i r j d)) (sym (getD-set-other ns i j n 0 d)) (C .covers j h)
+          | yes e ↦ subst₂ (λ (k m : ℕ). Covers (rowAt widths s k) m) (sym e) (sym (number-same j e h)) (at (rw e at h))
+          | no d ↦ subst (Covers (rowAt widths s j)) (sym (getD-set-other ns i j n 0 d)) (others j h d)
         ];
       }
     where
       number-same : (j : ℕ) → j ≡ i → j < length widths → getD (set ns i n) j 0 ≡ n
-      number-same j e h = rw e (getD-set-same ns i n 0 (let l = C .count in omega arith))
+      number-same j e h = rw e (getD-set-same ns i n 0 (omega arith))
+
+  pub covers-put : (s : State) → StateFits widths s → (ns : List ℕ) → CoversState widths s ns → (i : ℕ) (r : Row) (n : ℕ) → r .width ≡ widthAt widths i → Covers r n → CoversState widths (put s i r) (set ns i n)
+  covers-put s S ns C i r n w c =
+      covers-set (put s i r) ns i n (C .count) (λ h. subst (λ (q : Row). Covers q n) (sym (row-same s S i r w i refl h)) c)
+      (λ j h d. subst (λ (q : Row). Covers q (getD ns j 0)) (sym (row-other s i r j d)) (C .covers j h))
 
   pub inside-put : (s t : State) → StateFits widths s → StateFits widths t → InsideState widths s t → (i : ℕ) (p q : Row) → p .width ≡ widthAt widths i → q .width ≡ widthAt widths i → Inside p q
       → InsideState widths (put s i p) (put t i q)

@@ -2,18 +2,17 @@
 --   FitPut widths i r   r is a well-formed vector of the width of row i
 use mathlib.Core.Path.{_≡_, refl, sym, _∙_, subst}
 use mathlib.Core.Logic.{_≢_}
-use mathlib.Core.List.{List, [], _∷_}
+use mathlib.Core.List.{List, [], _∷_, map}
 use Prim.Native.Nat.{ℕ, _<_}
 use lib.ListN.{length, getD, set, length-set}
 use lib.Seq.{getD-set-same, getD-set-other}
-use Rattle.vectors.specs.Lists.{All}
+use Rattle.vectors.specs.Lists.{All, Distinct}
 use Rattle.vectors.specs.Row.{Row, WellFormed, Covers, Inside}
 use Rattle.operations.specs.Record.{widthAt}
 use Rattle.checks.specs.Table.{State, rowAt}
 use Rattle.tables.specs.Step.{put, putAll, setAll}
 use Rattle.tables.specs.Demand.{StateFits, CoversState, InsideState}
-use Rattle.vectors.proofs.Lists.{all-imp}
-use Rattle.tables.proofs.Fits.{DistinctAt}
+use Rattle.vectors.proofs.Lists.{all-unmap, all-imp}
 use Rattle.tables.proofs.Put.{row-same, row-other, fits-put, covers-put, inside-put}
 
 pub record FitPut (widths : List ℕ) (i : ℕ) (r : Row) : Type 0 where
@@ -29,10 +28,10 @@ module _ {A : Type 0} (widths : List ℕ) (t : A → ℕ) (g : A → Row) where
   others-all [] s i d = refl
   others-all (a ∷ l) s i d = others-all l (put s (t a) (g a)) i (d .1) ∙ row-other widths s (t a) (g a) i (λ p. d .0 (sym p))
 
-  pub targets-all : (l : List A) → All (λ a. FitPut widths (t a) (g a)) l → All (λ a. t a < length widths) l → DistinctAt t l → (s : State) → StateFits widths s → All (λ a. rowAt widths (putAll t g l s) (t a) ≡ g a) l
+  pub targets-all : (l : List A) → All (λ a. FitPut widths (t a) (g a)) l → All (λ a. t a < length widths) l → Distinct (map t l) → (s : State) → StateFits widths s → All (λ a. rowAt widths (putAll t g l s) (t a) ≡ g a) l
   targets-all [] F N D s S = tt
   targets-all (a ∷ l) F N D s S = (
-    others-all l (put s (t a) (g a)) (t a) (D .0) ∙ row-same widths s S (t a) (g a) (F .0 .width-is) (t a) refl (N .0),
+    others-all l (put s (t a) (g a)) (t a) (all-unmap (λ i. i ≢ t a) t l (D .0)) ∙ row-same widths s S (t a) (g a) (F .0 .width-is) (t a) refl (N .0),
     targets-all l (F .1) (N .1) (D .1) (put s (t a) (g a)) (fits-put widths s S (t a) (g a) (F .0 .width-is) (F .0 .formed)),
   )
 
@@ -59,9 +58,9 @@ module _ {A : Type 0} (t : A → ℕ) (h : A → ℕ) where
   numbers-other [] ns i d = refl
   numbers-other (a ∷ l) ns i d = numbers-other l (set ns (t a) (h a)) i (d .1) ∙ getD-set-other ns (t a) i (h a) 0 (λ p. d .0 (sym p))
 
-  pub numbers-all : (l : List A) (ns : List ℕ) → All (λ a. t a < length ns) l → DistinctAt t l → All (λ a. getD (setAll t h l ns) (t a) 0 ≡ h a) l
+  pub numbers-all : (l : List A) (ns : List ℕ) → All (λ a. t a < length ns) l → Distinct (map t l) → All (λ a. getD (setAll t h l ns) (t a) 0 ≡ h a) l
   numbers-all [] ns N D = tt
   numbers-all (a ∷ l) ns N D = (
-    numbers-other l (set ns (t a) (h a)) (t a) (D .0) ∙ getD-set-same ns (t a) (h a) 0 (N .0),
+    numbers-other l (set ns (t a) (h a)) (t a) (all-unmap (λ i. i ≢ t a) t l (D .0)) ∙ getD-set-same ns (t a) (h a) 0 (N .0),
     numbers-all l (set ns (t a) (h a)) (all-imp (λ b n. subst (λ (m : ℕ). t b < m) (sym (length-set ns (t a) (h a))) n) l (N .1)) (D .1),
   )

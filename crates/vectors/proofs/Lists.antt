@@ -13,6 +13,10 @@ pub all-map : {A B : Type 0} {Q : A → Type 0} (P : B → Type 0) (g : A → B)
 all-map P g h [] q = tt
 all-map P g h (a ∷ l) q = (h a (q .0), all-map P g h l (q .1))
 
+pub all-unmap : {A B : Type 0} (P : B → Type 0) (g : A → B) (l : List A) → All P (map g l) → All (λ a. P (g a)) l
+all-unmap P g [] q = tt
+all-unmap P g (a ∷ l) q = (q .0, all-unmap P g l (q .1))
+
 pub all-imp : {A : Type 0} {Q P : A → Type 0} → ((a : A) → Q a → P a) → (l : List A) → All Q l → All P l
 all-imp h [] q = tt
 all-imp h (a ∷ l) q = (h a (q .0), all-imp h l (q .1))
@@ -24,6 +28,10 @@ all-both h (a ∷ l) q r = (h a (q .0) (r .0), all-both h l (q .1) (r .1))
 pub all-of : {A : Type 0} {P : A → Type 0} → ((a : A) → P a) → (l : List A) → All P l
 all-of h [] = tt
 all-of h (a ∷ l) = (h a, all-of h l)
+
+pub all-for : {A B : Type 0} (P : B → A → Type 0) (l : List A) → ((b : B) → All (P b) l) → All (λ a. (b : B) → P b a) l
+all-for P [] h = tt
+all-for P (a ∷ l) h = ((λ b. h b .0), all-for P l (λ b. h b .1))
 
 pub all-member : {A : Type 0} (P : A → Type 0) {a : A} (l : List A) → All P l → List·Memᴰ a l → P a
 all-member P [] q d = absurd (List·Memᴰ·not-nil d)

@@ -1,7 +1,10 @@
--- Two properties of lists.
+-- Properties of lists.
 --   All P l      P holds of each element of l
 --   Pointwise R l m   l and m have one length, and R holds of their elements place by place
+--   Missing i l  no element of l is i;   Distinct l   no two elements of l are one
+use mathlib.Core.Logic.{_≢_}
 use mathlib.Core.List.{List, [], _∷_}
+use Prim.Native.Nat.{ℕ}
 
 abbrev pub All : {A : Type 0} → (A → Type 0) → List A → Type 0
 All P [] = Unit {0}
@@ -12,3 +15,10 @@ Pointwise R [] [] = Unit {0}
 Pointwise R [] (b ∷ m) = ⊥
 Pointwise R (a ∷ l) [] = ⊥
 Pointwise R (a ∷ l) (b ∷ m) = R a b × Pointwise R l m
+
+abbrev pub Missing : ℕ → List ℕ → Type 0
+Missing i l = All (λ j. j ≢ i) l
+
+abbrev pub Distinct : List ℕ → Type 0
+Distinct [] = Unit {0}
+Distinct (i ∷ l) = Missing i l × Distinct l

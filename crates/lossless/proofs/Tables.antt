@@ -1,0 +1,138 @@
+-- Small tables: one that meets all conditions, and for each condition that is needed one that breaks it alone. Computed over the definitions. Assumes nothing.
+use mathlib.Core.Path.{_≡_, refl}
+use mathlib.Core.Logic.{_≢_}
+use mathlib.Core.List.{[], _∷_, map}
+use Prim.Native.Nat.{ℕ, zero, suc, _<_}
+use native.Mathlib.Omega.{arith}
+use Rattle.bits.specs.Bit.{bit, isSet, number}
+use Rattle.bits.specs.Below.{someBelow, allBelow}
+use Rattle.bits.specs.Counted.{listed, rising}
+use Rattle.vectors.specs.Choice.{coversb, someChoice}
+use Rattle.vectors.specs.Best.{may, best}
+use Rattle.vectors.proofs.Lists.{all-unmap, all-member}
+use Rattle.operations.specs.Kinds.{kinds, isKind, kindOf}
+use Rattle.operations.specs.Record.{rowsNamed, namedTwice, recordFaults, lockFault, effectOf, effectsOf}
+use Rattle.checks.specs.Check.{verdict}
+use Rattle.checks.specs.Table.{Table, recordOf}
+use Rattle.checks.specs.Checks.{runChecks}
+use Rattle.checks.specs.Model.{lent}
+use Rattle.tables.specs.Step.{step, plainStep, after, plainAfter}
+use Rattle.tables.specs.Run.{runOf}
+use Rattle.lossless.specs.Conditions.{losslessKinds, rowsRead, rowsWritten, ListedKinds, LosesNothing, LastRecord, NamedOnce}
+use Rattle.lossless.specs.Needed.{Runs, Needed}
+use Rattle.lossless.proofs.Tests.{missing-of, distinct-of, apart-of, unwritten-of, listed-of, imprecise-of, blunt-of}
+
+-- ---- the conditions can be met
+
+-- row 2 = row 0 and row 1, row 3 = row 2; then a last record of another kind, row 4 = row 3 + row 4, which writes one of its own operands
+abbrev added : Table
+added = lent (2 ∷ 2 ∷ 2 ∷ 2 ∷ 2 ∷ []) (0 ∷ 0 ∷ 0 ∷ 0 ∷ 0 ∷ []) (1 ∷ 3 ∷ 0 ∷ 0 ∷ 0 ∷ []) (2 ∷ 0 ∷ 0 ∷ 0 ∷ 1 ∷ []) (2 ∷ 2 ∷ 0 ∷ 1 ∷ 0 ∷ 0 ∷ 3 ∷ 2 ∷ 0 ∷ 0 ∷ 13 ∷ 4 ∷ 3 ∷ 4 ∷ 0 ∷ [])
+
+pub conditions-met : Runs added 3 × LosesNothing added 0 2 × LastRecord added 0 2
+unfolding runOf runChecks verdict listed rising recordFaults lockFault rowsNamed isKind kindOf losslessKinds allBelow
+conditions-met = (
+  refl,
+  record {
+    kinds = listed-of added 2 tt;
+    operands-once = distinct-of (rowsRead added 0 2) tt;
+    targets-once = distinct-of (rowsWritten added 0 2) tt;
+    reads-unwritten = unwritten-of added 2 tt;
+  },
+  record {
+    named-once = distinct-of (rowsNamed (recordOf added 2)) tt;
+    unread = apart-of (rowsRead added 0 2) (rowsNamed (recordOf added 2)) tt;
+    unwritten = missing-of 4 (rowsWritten added 0 2) tt;
+  },
+)
+
+-- ---- each condition that is needed
+
+-- row 0 is X in each. Row 1 = row 0 beside itself, 00 or 11; is it 01?
+abbrev doubled : Table
+doubled = lent (1 ∷ 2 ∷ 2 ∷ 1 ∷ []) (0 ∷ 0 ∷ 0 ∷ 0 ∷ []) (1 ∷ 0 ∷ 0 ∷ 0 ∷ []) (0 ∷ 0 ∷ 1 ∷ 0 ∷ []) (10 ∷ 1 ∷ 0 ∷ 0 ∷ 0 ∷ 17 ∷ 3 ∷ 1 ∷ 2 ∷ 0 ∷ [])
+
+-- rows 1 and 2 = row 0; do they differ?
+abbrev copied : Table
+copied = lent (1 ∷ 1 ∷ 1 ∷ 1 ∷ []) (0 ∷ 0 ∷ 0 ∷ 0 ∷ []) (1 ∷ 0 ∷ 0 ∷ 0 ∷ []) (0 ∷ 0 ∷ 0 ∷ 0 ∷ []) (0 ∷ 1 ∷ 0 ∷ 0 ∷ 0 ∷ 0 ∷ 2 ∷ 0 ∷ 0 ∷ 0 ∷ 4 ∷ 3 ∷ 1 ∷ 2 ∷ 0 ∷ [])
+
+-- row 1 = row 0 by sext, 00 or 11; is it 01?
+abbrev extended : Table
+extended = lent (1 ∷ 2 ∷ 2 ∷ 1 ∷ []) (0 ∷ 0 ∷ 0 ∷ 0 ∷ []) (1 ∷ 0 ∷ 0 ∷ 0 ∷ []) (0 ∷ 0 ∷ 1 ∷ 0 ∷ []) (12 ∷ 1 ∷ 0 ∷ 0 ∷ 0 ∷ 17 ∷ 3 ∷ 1 ∷ 2 ∷ 0 ∷ [])
+
+-- row 0 is XX. Row 1 = its square, of which bit 1 is 0
+abbrev squared : Table
+squared = lent (2 ∷ 2 ∷ []) (0 ∷ 0 ∷ []) (3 ∷ 0 ∷ []) (0 ∷ 0 ∷ []) (16 ∷ 1 ∷ 0 ∷ 0 ∷ 0 ∷ [])
+
+-- row 1 = row 0; do they differ?
+abbrev compared : Table
+compared = lent (1 ∷ 1 ∷ 1 ∷ []) (0 ∷ 0 ∷ 0 ∷ []) (1 ∷ 0 ∷ 0 ∷ []) (0 ∷ 0 ∷ 0 ∷ []) (0 ∷ 1 ∷ 0 ∷ 0 ∷ 0 ∷ 4 ∷ 2 ∷ 0 ∷ 1 ∷ 0 ∷ [])
+
+one-by-one : (i : ℕ) → i < 3 → NamedOnce copied i
+unfolding rowsNamed kindOf
+one-by-one zero h = distinct-of (rowsNamed (recordOf copied 0)) tt
+one-by-one (suc zero) h = distinct-of (rowsNamed (recordOf copied 1)) tt
+one-by-one (suc (suc zero)) h = distinct-of (rowsNamed (recordOf copied 2)) tt
+one-by-one (suc (suc (suc i))) h = absurd (omega arith)
+
+-- sext is kind 12, which the list has not
+outside : ListedKinds extended 0 1 → ⊥
+unfolding losslessKinds kindOf
+outside K = all-member (λ k. k .number ≢ 12) losslessKinds (all-unmap (λ j. j ≢ 12) (λ k. k .number) losslessKinds (missing-of 12 (map (λ k. k .number) losslessKinds) tt)) (K 0 (omega arith) (omega arith)) refl
+
+pub conditions-needed : Needed
+unfolding runOf runChecks verdict listed rising recordFaults lockFault rowsNamed namedTwice isKind kindOf losslessKinds allBelow someBelow someChoice coversb bit number may best effectOf effectsOf step plainStep after plainAfter isSet
+conditions-needed =
+    record {
+      operand-twice-in-one = (
+        doubled,
+        refl,
+        listed-of doubled 1 tt,
+        (λ D. D .0 .0 refl),
+        distinct-of (rowsWritten doubled 0 1) tt,
+        unwritten-of doubled 1 tt,
+        (0, omega arith, imprecise-of doubled 1 1 1 tt tt),
+        record { named-once = distinct-of (rowsNamed (recordOf doubled 1)) tt; unread = apart-of (rowsRead doubled 0 1) (rowsNamed (recordOf doubled 1)) tt; unwritten = missing-of 3 (rowsWritten doubled 0 1) tt },
+        blunt-of doubled 2 3 0 0 (omega arith) (omega arith) refl tt,
+      );
+      operand-twice-in-two = (
+        copied,
+        refl,
+        listed-of copied 3 tt,
+        one-by-one,
+        (λ D. D .0 .0 refl),
+        distinct-of (rowsWritten copied 0 3) tt,
+        unwritten-of copied 3 tt,
+        (2, omega arith, imprecise-of copied 3 3 1 tt tt),
+        record { named-once = distinct-of (rowsNamed (recordOf copied 2)) tt; unread = apart-of (rowsRead copied 0 2) (rowsNamed (recordOf copied 2)) tt; unwritten = missing-of 3 (rowsWritten copied 0 2) tt },
+        blunt-of copied 3 3 0 0 (omega arith) (omega arith) refl tt,
+      );
+      kind-outside = (
+        extended,
+        refl,
+        outside,
+        distinct-of (rowsRead extended 0 1) tt,
+        distinct-of (rowsWritten extended 0 1) tt,
+        unwritten-of extended 1 tt,
+        (0, omega arith, imprecise-of extended 1 1 1 tt tt),
+        record { named-once = distinct-of (rowsNamed (recordOf extended 1)) tt; unread = apart-of (rowsRead extended 0 1) (rowsNamed (recordOf extended 1)) tt; unwritten = missing-of 3 (rowsWritten extended 0 1) tt },
+        blunt-of extended 2 3 0 0 (omega arith) (omega arith) refl tt,
+      );
+      last-names-twice = (
+        squared,
+        refl,
+        record { kinds = listed-of squared 0 tt; operands-once = tt; targets-once = tt; reads-unwritten = unwritten-of squared 0 tt },
+        (λ D. D .0 .0 refl),
+        apart-of (rowsRead squared 0 0) (rowsNamed (recordOf squared 0)) tt,
+        tt,
+        blunt-of squared 1 1 1 0 (omega arith) (omega arith) refl tt,
+      );
+      last-reads-again = (
+        compared,
+        refl,
+        record { kinds = listed-of compared 1 tt; operands-once = distinct-of (rowsRead compared 0 1) tt; targets-once = distinct-of (rowsWritten compared 0 1) tt; reads-unwritten = unwritten-of compared 1 tt },
+        distinct-of (rowsNamed (recordOf compared 1)) tt,
+        (λ U. U .0 .0 refl),
+        missing-of 2 (rowsWritten compared 0 1) tt,
+        blunt-of compared 2 2 0 0 (omega arith) (omega arith) refl tt,
+      );
+    }

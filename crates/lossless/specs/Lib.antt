@@ -1,0 +1,4 @@
+-- The definitions of `lossless`.
+pub mod Conditions
+pub mod Claims
+pub mod Needed
