@@ -1,7 +1,8 @@
 // The executed tests: every vector pair to width 4, through the public run on real tables, against plain enumeration of all choices.
 // The output has a line for each kind, then one for all records that name one row twice, one each for `product_bit`, `witnesses`, `range` and `reset_bits`, one
-// for the examples and the total: the name, the tables tried (for `product_bit`, `witnesses` and `reset_bits` the bits, for `range` the pairs of ends), those
-// that disagree.
+// for drawn tables that lose nothing, one for the examples and the total: the name, the tables tried (for `product_bit`, `witnesses` and
+// `reset_bits` the bits, for `range` the pairs of ends), those that disagree.
+use lossless_trials::sweeps::lossless;
 use oracle::shapes::KINDS;
 use report::print_kind;
 use report::print_line;
@@ -47,8 +48,13 @@ fn main() {
     print_line(b"range", ends);
     let conclusions = resets();
     print_line(b"reset_bits", conclusions);
+    let designs = lossless();
+    print_line(b"lossless", designs);
     let shown = examples();
     print_line(b"examples", shown);
     let calls = joined(joined(bits, pairs), joined(ends, conclusions));
-    print_line(b"total", joined(joined(tables, calls), shown));
+    print_line(
+        b"total",
+        joined(joined(tables, calls), joined(designs, shown)),
+    );
 }

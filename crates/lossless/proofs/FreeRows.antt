@@ -1,8 +1,9 @@
 -- Over programs of any length: rows that nothing has read since they were written are free of each other. Assumes nothing.
---   Live e j i                after the records with the effects e 0 .. e (j - 1), none has read row i since it was last written, or since the start
---   ReadsLive e j l           the effect l reads distinct rows, all of them live after these records
---   FreeRecords P e first n   the n records from `first` on have one effect each, e 0, e 1, .., which loses nothing and reads distinct live rows
---   Free j                    after j records: numbers that the rows cover, however chosen, are what some plain run gives to all live rows at once
+--   Fresh e j i               after the records with the effects e 0 .. e (j - 1), none has read row i since it was last written, or since the start
+--   ReadsFresh e j l          the effect l reads distinct rows, all of them fresh after these records
+--   FreeRecords P e first n   the n records from `first` on have one effect each, e 0, e 1, .., which loses nothing and reads distinct fresh rows
+--   Free j                    after j records: numbers that the rows cover, however chosen, are what some plain run gives to all fresh rows at once
+--   Reached j i m             after j records some plain run has the number m for row i
 use mathlib.Core.Path.{_≡_, refl, sym, ap, _∙_, subst}
 use mathlib.Core.Logic.{_≢_, _⊎_, inl, inr}
 use mathlib.Core.List.{List, [], _∷_, map, map-map}
@@ -29,17 +30,17 @@ use Rattle.lossless.proofs.Local.{Lossless}
 use Rattle.lossless.proofs.Sharps.{Brought}
 use Rattle.lossless.proofs.Assign.{values-cover, assign, assign-missing, assign-covers, assign-reads}
 
-abbrev pub Live : (ℕ → Effect) → ℕ → ℕ → Type 0
-Live e zero i = Unit {0}
-Live e (suc j) i = (e j .target ≡ i) ⊎ (Missing i (e j .operands) × Live e j i)
+abbrev pub Fresh : (ℕ → Effect) → ℕ → ℕ → Type 0
+Fresh e zero i = Unit {0}
+Fresh e (suc j) i = (e j .target ≡ i) ⊎ (Missing i (e j .operands) × Fresh e j i)
 
-abbrev pub ReadsLive : (ℕ → Effect) → ℕ → Effect → Type 0
-ReadsLive e j l = Distinct (l .operands) × All (Live e j) (l .operands)
+abbrev pub ReadsFresh : (ℕ → Effect) → ℕ → Effect → Type 0
+ReadsFresh e j l = Distinct (l .operands) × All (Fresh e j) (l .operands)
 
 pub record FreeRecords (P : Program) (e : ℕ → Effect) (first n : ℕ) : Type 0 where
   pub single : (j : ℕ) → j < n → P .effects (first + j) ≡ e j ∷ []
   pub lossless : (j : ℕ) → j < n → (rows : List Row) → All WellFormed rows → widthsOf rows ≡ map (widthAt (P .widths)) (e j .operands) → Lossless (widthAt (P .widths) (e j .target)) (e j .value) rows
-  pub reads : (j : ℕ) → j < n → ReadsLive e j (e j)
+  pub reads : (j : ℕ) → j < n → ReadsFresh e j (e j)
 
 module _ (P : Program) (F : FitProgram P) (first n : ℕ) (within : first + n ≤ P .count) (e : ℕ → Effect) (L : FreeRecords P e first n) (s : State) (S : StateFits (P .widths) s) where
   abbrev ws : List ℕ
@@ -59,7 +60,7 @@ module _ (P : Program) (F : FitProgram P) (first n : ℕ) (within : first + n �
   Start ns = CoversState (P .widths) s ns
 
   abbrev Free : ℕ → Type 0
-  Free j = (xs : List ℕ) → CoversState ws (rows j) xs → (ns : List ℕ) × Start ns × ((i : ℕ) → i < length ws → Live e j i → number-at j ns i ≡ getD xs i 0)
+  Free j = (xs : List ℕ) → CoversState ws (rows j) xs → (ns : List ℕ) × Start ns × ((i : ℕ) → i < length ws → Fresh e j i → number-at j ns i ≡ getD xs i 0)
 
   fits : (j : ℕ) → j < n → Fit ws (e j)
   fits j h = subst (All (Fit ws)) (L .single j h) (F (first + j) (omega arith) .fit) .0
@@ -98,10 +99,10 @@ module _ (P : Program) (F : FitProgram P) (first n : ℕ) (within : first + n �
   unfolding after plainAfter
   free-start xs C = (xs, C, (λ i h v. refl))
 
-  -- numbers for some live rows may be chosen as well
-  free-for : (j : ℕ) → Free j → (l : Effect) → Fit ws l → ReadsLive e j l → (xs : List ℕ) → CoversState ws (rows j) xs → (ms : List ℕ) → Chosen (operandRows ws (rows j) l) ms
+  -- numbers for some fresh rows may be chosen as well
+  free-for : (j : ℕ) → Free j → (l : Effect) → Fit ws l → ReadsFresh e j l → (xs : List ℕ) → CoversState ws (rows j) xs → (ms : List ℕ) → Chosen (operandRows ws (rows j) l) ms
       → (ns : List ℕ) × Start ns × (operandNumbers (plainAfter P first j ns) l ≡ ms)
-      × ((i : ℕ) → i < length ws → Live e j i → Missing i (l .operands) → number-at j ns i ≡ getD xs i 0)
+      × ((i : ℕ) → i < length ws → Fresh e j i → Missing i (l .operands) → number-at j ns i ≡ getD xs i 0)
   free-for j I l G R xs C ms M =
       let os = l .operands in
       let (ns, T, g) = I (assign os ms xs) (assign-covers ws (rows j) os ms xs M C) in (
@@ -144,17 +145,17 @@ module _ (P : Program) (F : FitProgram P) (first n : ℕ) (within : first + n �
   abbrev Reached : ℕ → ℕ → ℕ → Type 0
   Reached j i m = (ns : List ℕ) × Start ns × (number-at j ns i ≡ m)
 
-  reached-live : (j : ℕ) → j ≤ n → (i : ℕ) → i < length ws → Live e j i → (m : ℕ) → Covers (row-at j i) m → Reached j i m
-  reached-live j h i l v m c =
+  reached-fresh : (j : ℕ) → j ≤ n → (i : ℕ) → i < length ws → Fresh e j i → (m : ℕ) → Covers (row-at j i) m → Reached j i m
+  reached-fresh j h i l v m c =
       let C = values-at j in
       let (ns, T, g) = free j h (set (rows j .values) i m) (covers-set ws (rows j) (rows j .values) i m (C .count) (λ k. c) (λ k a d. C .covers k a)) in
       (ns, T, g i l v ∙ getD-set-same (rows j .values) i m 0 (subst (λ (x : ℕ). i < x) (sym (C .count)) l))
 
   -- a row that is read or not keeps what it was last given, in the rows and in plain runs
   reached : (j : ℕ) → j ≤ n → (i : ℕ) → i < length ws → (m : ℕ) → Covers (row-at j i) m → Reached j i m
-  reached zero h i l m c = reached-live zero h i l tt m c
+  reached zero h i l m c = reached-fresh zero h i l tt m c
   reached (suc j) h i l m c = elim (ℕ-discrete (e j .target) i) [
-    | yes p ↦ reached-live (suc j) h i l (inl p) m c
+    | yes p ↦ reached-fresh (suc j) h i l (inl p) m c
     | no d ↦
         let (ns, T, v) = reached j (omega arith) i l m (subst (λ (r : Row). Covers r m) (others-at j h i d) c) in
         (ns, T, plain-others-at j h ns i d ∙ v)
@@ -163,9 +164,9 @@ module _ (P : Program) (F : FitProgram P) (first n : ℕ) (within : first + n �
   pub precise : (i : ℕ) → i < length ws → Precise ws s (plainAfter P first n) (rows n) i
   precise i l m = (reached n (omega arith) i l m, (λ r. let (ns, T, v) = r in subst (Covers (row-at n i)) v (covers-at ns T n (omega arith) .covers i l)))
 
-  -- ---- what every choice from live rows gives, some plain run gives
+  -- ---- what every choice from fresh rows gives, some plain run gives
 
-  pub brought : (l : Effect) → Fit ws l → ReadsLive e n l → Brought P first n s l
+  pub brought : (l : Effect) → Fit ws l → ReadsFresh e n l → Brought P first n s l
   brought l G R ms M =
       let (ns, T, reads, g) = free-for n (free n (omega arith)) l G R (rows n .values) (values-at n) ms M in
       (ns, T, reads)

@@ -32,9 +32,9 @@ use Rattle.lossless.specs.Conditions.{losslessKinds, writes, ListedKinds
 use Rattle.lossless.specs.Claims.{Precise, Sharp, rowsAfter, PreciseAfter, SharpAfter, PreciseRun, SharpRun}
 use Rattle.lossless.proofs.Local.{Lossless, lossless}
 use Rattle.lossless.proofs.LocalKinds.{kind-local}
-use Rattle.lossless.proofs.FreeRows.{Live, ReadsLive, FreeRecords, precise, brought}
+use Rattle.lossless.proofs.FreeRows.{Fresh, ReadsFresh, FreeRecords, precise, brought}
 use Rattle.lossless.proofs.Sharps.{Brought, sharp}
-use Rattle.lossless.proofs.Stretches.{part-distinct, part-unread, unread-live}
+use Rattle.lossless.proofs.Stretches.{part-distinct, part-unread, unread-fresh}
 
 -- ---- one record
 
@@ -96,7 +96,7 @@ module _ (t : Table) (A : Fitting t) (first last : ℕ) (o : first ≤ last) (w 
         lossless = λ j l. record-lossless (t .widths) (recordOf t (first + j)) (A .records (first + j) (omega arith)) (K (first + j) (omega arith) (omega arith));
         reads = λ j l. (
           distinct j l,
-          unread-live effect j (named (first + j)) (λ k m. part-unread named first (last - first) O (first + k) (first + j) (omega arith) (omega arith) (omega arith)),
+          unread-fresh effect j (named (first + j)) (λ k m. part-unread named first (last - first) O (first + k) (first + j) (omega arith) (omega arith) (omega arith)),
         );
       }
     where
@@ -111,8 +111,8 @@ module _ (t : Table) (A : Fitting t) (first last : ℕ) (o : first ≤ last) (w 
   abbrev SharpAt : ℕ → Effect → Type 0
   SharpAt m l = Sharp (t .widths) (startOf t) (plainAfter (programOf t) first m) (after (programOf t) first m (startOf t)) (l .target)
 
-  -- record `last`, whatever its effects, of which each reads distinct live rows
-  effects-sharp : last < recordCount t → All (ReadsLive effect (last - first)) (effectsAt t last) → All (λ l. SharpAfter t first (suc last) (l .target)) (effectsAt t last)
+  -- record `last`, whatever its effects, of which each reads distinct fresh rows
+  effects-sharp : last < recordCount t → All (ReadsFresh effect (last - first)) (effectsAt t last) → All (λ l. SharpAfter t first (suc last) (l .target)) (effectsAt t last)
   effects-sharp h R =
       let n = last - first in
       let next : suc n ≡ suc last - first = omega arith in
@@ -125,9 +125,9 @@ module _ (t : Table) (A : Fitting t) (first last : ℕ) (o : first ≤ last) (w 
   pub fresh-sharp : last < recordCount t → NamedOnce t last → Unread t first last → SharpAfter t first (suc last) (writes t last)
   fresh-sharp h D U =
       let alone = effects-free (t .widths) (recordOf t last) (A .records last h .kind-known) D in
-      let live : All (Live effect (last - first)) (named last) = unread-live effect (last - first) (named last)
+      let fresh : All (Fresh effect (last - first)) (named last) = unread-fresh effect (last - first) (named last)
       (λ k m. all-imp (λ r u. all-rising (λ j. j ≢ r) named first (last - first) u (first + k) (omega arith) (omega arith)) (named last) U) in
-      subst (All (λ l. SharpAfter t first (suc last) (l .target))) alone (effects-sharp h (subst (All (ReadsLive effect (last - first))) (sym alone) ((D, live), tt))) .0
+      subst (All (λ l. SharpAfter t first (suc last) (l .target))) alone (effects-sharp h (subst (All (ReadsFresh effect (last - first))) (sym alone) ((D, fresh), tt))) .0
 
 -- ---- in the request's words
 

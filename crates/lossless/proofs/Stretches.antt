@@ -10,7 +10,7 @@ use Rattle.vectors.specs.Lists.{All, Missing, Distinct}
 use Rattle.vectors.proofs.Lists.{all-of, all-both}
 use Rattle.vectors.proofs.ListParts.{all-left, all-right, all-rising}
 use Rattle.operations.specs.Record.{Effect}
-use Rattle.lossless.proofs.FreeRows.{Live}
+use Rattle.lossless.proofs.FreeRows.{Fresh}
 
 -- ---- two lists, one after another
 
@@ -48,8 +48,8 @@ module _ (f : ℕ → List ℕ) where
         | no d ↦ part-unread (suc i) n (distinct-right (f i) (rising f (suc i) n) D) k j (omega arith) m (omega arith)
       ]
 
--- ---- rows that no record has read are live
+-- ---- rows that no record has read are fresh
 
-pub unread-live : (e : ℕ → Effect) (j : ℕ) (l : List ℕ) → ((k : ℕ) → k < j → All (λ o. Missing o (e k .operands)) l) → All (Live e j) l
-unread-live e zero l h = all-of (λ o. tt) l
-unread-live e (suc j) l h = all-both (λ o m v. inr (m, v)) l (h j (omega arith)) (unread-live e j l (λ k m. h k (omega arith)))
+pub unread-fresh : (e : ℕ → Effect) (j : ℕ) (l : List ℕ) → ((k : ℕ) → k < j → All (λ o. Missing o (e k .operands)) l) → All (Fresh e j) l
+unread-fresh e zero l h = all-of (λ o. tt) l
+unread-fresh e (suc j) l h = all-both (λ o m v. inr (m, v)) l (h j (omega arith)) (unread-fresh e j l (λ k m. h k (omega arith)))
