@@ -19,7 +19,9 @@ use Rattle.checks.specs.Model.{lent}
 use Rattle.tables.specs.Step.{step, plainStep, after, plainAfter}
 use Rattle.tables.specs.Run.{runOf}
 use Rattle.lossless.specs.Conditions.{losslessKinds, rowsRead, rowsWritten, ListedKinds, LosesNothing, LastRecord, NamedOnce}
+use Rattle.lossless.specs.Claims.{PreciseRun, SharpRun}
 use Rattle.lossless.specs.Needed.{Runs, Needed}
+use Rattle.lossless.proofs.NothingLost.{run-precise, run-sharp}
 use Rattle.lossless.proofs.Tests.{missing-of, distinct-of, apart-of, unwritten-of, listed-of, imprecise-of, blunt-of}
 
 -- ---- the conditions can be met
@@ -28,9 +30,10 @@ use Rattle.lossless.proofs.Tests.{missing-of, distinct-of, apart-of, un
 abbrev added : Table
 added = lent (2 ∷ 2 ∷ 2 ∷ 2 ∷ 2 ∷ []) (0 ∷ 0 ∷ 0 ∷ 0 ∷ 0 ∷ []) (1 ∷ 3 ∷ 0 ∷ 0 ∷ 0 ∷ []) (2 ∷ 0 ∷ 0 ∷ 0 ∷ 1 ∷ []) (2 ∷ 2 ∷ 0 ∷ 1 ∷ 0 ∷ 0 ∷ 3 ∷ 2 ∷ 0 ∷ 0 ∷ 13 ∷ 4 ∷ 3 ∷ 4 ∷ 0 ∷ [])
 
-pub conditions-met : Runs added 3 × LosesNothing added 0 2 × LastRecord added 0 2
+pub conditions-met : Runs added 2 × Runs added 3 × LosesNothing added 0 2 × LastRecord added 0 2
 unfolding runOf runChecks verdict listed rising recordFaults lockFault rowsNamed isKind kindOf losslessKinds allBelow
 conditions-met = (
+  refl,
   refl,
   record {
     kinds = listed-of added 2 tt;
@@ -44,6 +47,12 @@ conditions-met = (
     unwritten = missing-of 4 (rowsWritten added 0 2) tt;
   },
 )
+
+-- both theorems used on it: of row 3, which record 1 writes, and of row 4, which the last record writes
+pub added-exact : PreciseRun added 0 2 3 × SharpRun added 0 3 4
+added-exact =
+    let (accepted, longer, L, R) = conditions-met in
+    (run-precise added 0 2 accepted L 1 (omega arith) (omega arith), run-sharp added 0 2 (omega arith) longer L R)
 
 -- ---- each condition that is needed
 
