@@ -1,5 +1,5 @@
 -- Small tables: one that meets all conditions, and for each condition that is needed one that breaks it alone. Computed over the definitions. Assumes nothing.
-use mathlib.Core.Path.{_≡_, refl}
+use mathlib.Core.Path.{refl}
 use mathlib.Core.Logic.{_≢_}
 use mathlib.Core.List.{[], _∷_, map}
 use Prim.Native.Nat.{ℕ, zero, suc, _<_}
@@ -10,7 +10,7 @@ use Rattle.bits.specs.Counted.{listed, rising}
 use Rattle.vectors.specs.Choice.{coversb, someChoice}
 use Rattle.vectors.specs.Best.{may, best}
 use Rattle.vectors.proofs.Lists.{all-unmap, all-member}
-use Rattle.operations.specs.Kinds.{kinds, isKind, kindOf}
+use Rattle.operations.specs.Kinds.{isKind, kindOf}
 use Rattle.operations.specs.Record.{rowsNamed, namedTwice, recordFaults, lockFault, effectOf, effectsOf}
 use Rattle.checks.specs.Check.{verdict}
 use Rattle.checks.specs.Table.{Table, recordOf}
@@ -22,7 +22,7 @@ use Rattle.lossless.specs.Conditions.{losslessKinds, rowsRead, rowsWritt
 use Rattle.lossless.specs.Claims.{PreciseRun, SharpRun}
 use Rattle.lossless.specs.Needed.{Runs, Needed}
 use Rattle.lossless.proofs.NothingLost.{run-precise, run-sharp}
-use Rattle.lossless.proofs.Tests.{missing-of, distinct-of, apart-of, unwritten-of, listed-of, imprecise-of, blunt-of}
+use Rattle.lossless.proofs.Tests.{missing-of, distinct-of, apart-of, unwritten-of, listed-of, nothing-of, last-of, imprecise-of, blunt-of}
 
 -- ---- the conditions can be met
 
@@ -32,21 +32,7 @@ added = lent (2 ∷ 2 ∷ 2 ∷ 2 ∷ 2 ∷ []) (0 ∷ 0 ∷ 0 ∷ 0 ∷ 0 ∷ [
 
 pub conditions-met : Runs added 2 × Runs added 3 × LosesNothing added 0 2 × LastRecord added 0 2
 unfolding runOf runChecks verdict listed rising recordFaults lockFault rowsNamed isKind kindOf losslessKinds allBelow
-conditions-met = (
-  refl,
-  refl,
-  record {
-    kinds = listed-of added 2 tt;
-    operands-once = distinct-of (rowsRead added 0 2) tt;
-    targets-once = distinct-of (rowsWritten added 0 2) tt;
-    reads-unwritten = unwritten-of added 2 tt;
-  },
-  record {
-    named-once = distinct-of (rowsNamed (recordOf added 2)) tt;
-    unread = apart-of (rowsRead added 0 2) (rowsNamed (recordOf added 2)) tt;
-    unwritten = missing-of 4 (rowsWritten added 0 2) tt;
-  },
-)
+conditions-met = (refl, refl, nothing-of added 2 tt tt tt tt, last-of added 2 tt tt tt)
 
 -- both theorems used on it: of row 3, which record 1 writes, and of row 4, which the last record writes
 pub added-exact : PreciseRun added 0 2 3 × SharpRun added 0 3 4
@@ -95,41 +81,33 @@ conditions-needed =
       operand-twice-in-one = (
         doubled,
         refl,
-        listed-of doubled 1 tt,
-        (λ D. D .0 .0 refl),
-        distinct-of (rowsWritten doubled 0 1) tt,
-        unwritten-of doubled 1 tt,
+        (listed-of doubled 1 tt, (λ D. D .0 .0 refl), distinct-of (rowsWritten doubled 0 1) tt, unwritten-of doubled 1 tt),
         (0, omega arith, imprecise-of doubled 1 1 1 tt tt),
-        record { named-once = distinct-of (rowsNamed (recordOf doubled 1)) tt; unread = apart-of (rowsRead doubled 0 1) (rowsNamed (recordOf doubled 1)) tt; unwritten = missing-of 3 (rowsWritten doubled 0 1) tt },
+        last-of doubled 1 tt tt tt,
         blunt-of doubled 2 3 0 0 (omega arith) (omega arith) refl tt,
       );
       operand-twice-in-two = (
         copied,
         refl,
-        listed-of copied 3 tt,
         one-by-one,
-        (λ D. D .0 .0 refl),
-        distinct-of (rowsWritten copied 0 3) tt,
-        unwritten-of copied 3 tt,
+        (listed-of copied 3 tt, (λ D. D .0 .0 refl), distinct-of (rowsWritten copied 0 3) tt, unwritten-of copied 3 tt),
         (2, omega arith, imprecise-of copied 3 3 1 tt tt),
-        record { named-once = distinct-of (rowsNamed (recordOf copied 2)) tt; unread = apart-of (rowsRead copied 0 2) (rowsNamed (recordOf copied 2)) tt; unwritten = missing-of 3 (rowsWritten copied 0 2) tt },
+        (listed-of copied 2 tt, (λ D. D .0 .0 refl), distinct-of (rowsWritten copied 0 2) tt, unwritten-of copied 2 tt),
+        last-of copied 2 tt tt tt,
         blunt-of copied 3 3 0 0 (omega arith) (omega arith) refl tt,
       );
       kind-outside = (
         extended,
         refl,
-        outside,
-        distinct-of (rowsRead extended 0 1) tt,
-        distinct-of (rowsWritten extended 0 1) tt,
-        unwritten-of extended 1 tt,
+        (outside, distinct-of (rowsRead extended 0 1) tt, distinct-of (rowsWritten extended 0 1) tt, unwritten-of extended 1 tt),
         (0, omega arith, imprecise-of extended 1 1 1 tt tt),
-        record { named-once = distinct-of (rowsNamed (recordOf extended 1)) tt; unread = apart-of (rowsRead extended 0 1) (rowsNamed (recordOf extended 1)) tt; unwritten = missing-of 3 (rowsWritten extended 0 1) tt },
+        last-of extended 1 tt tt tt,
         blunt-of extended 2 3 0 0 (omega arith) (omega arith) refl tt,
       );
       last-names-twice = (
         squared,
         refl,
-        record { kinds = listed-of squared 0 tt; operands-once = tt; targets-once = tt; reads-unwritten = unwritten-of squared 0 tt },
+        nothing-of squared 0 tt tt tt tt,
         (λ D. D .0 .0 refl),
         apart-of (rowsRead squared 0 0) (rowsNamed (recordOf squared 0)) tt,
         tt,
@@ -138,7 +116,7 @@ conditions-needed =
       last-reads-again = (
         compared,
         refl,
-        record { kinds = listed-of compared 1 tt; operands-once = distinct-of (rowsRead compared 0 1) tt; targets-once = distinct-of (rowsWritten compared 0 1) tt; reads-unwritten = unwritten-of compared 1 tt },
+        nothing-of compared 1 tt tt tt tt,
         distinct-of (rowsNamed (recordOf compared 1)) tt,
         (λ U. U .0 .0 refl),
         missing-of 2 (rowsWritten compared 0 1) tt,

@@ -25,7 +25,7 @@ use Rattle.operations.specs.Record.{kindWord, rowsNamed, widthAt}
 use Rattle.checks.specs.Table.{State, rowAt, Table, startOf, recordOf}
 use Rattle.tables.specs.Run.{pointRows, plainRun}
 use Rattle.tables.specs.Demand.{CoversState}
-use Rattle.lossless.specs.Conditions.{losslessKinds, rowsWritten, ListedKinds, ReadsUnwritten}
+use Rattle.lossless.specs.Conditions.{losslessKinds, writes, rowsRead, rowsWritten, ListedKinds, ReadsUnwritten, LosesNothing, LastRecord}
 use Rattle.lossless.specs.Claims.{PreciseRun, SharpRun}
 
 -- ---- the conditions
@@ -70,6 +70,19 @@ numbered-member n (k ∷ ks) f t = elim (T-or (eqb (k .number) n) (numbered n ks
 
 pub listed-of : (t : Table) (last : ℕ) → T (allBelow last (λ i. numbered (kindWord (recordOf t i)) losslessKinds)) → ListedKinds t 0 last
 listed-of t last u i h l = numbered-member (kindWord (recordOf t i)) losslessKinds found-again (allBelow-elim last _ u i l)
+
+pub nothing-of : (t : Table) (last : ℕ) → T (allBelow last (λ i. numbered (kindWord (recordOf t i)) losslessKinds)) → T (distinct (rowsRead t 0 last)) → T (distinct (rowsWritten t 0 last))
+    → T (allBelow last (λ i. apart (rowsWritten t i last) (rowsNamed (recordOf t i)))) → LosesNothing t 0 last
+nothing-of t last k r w u =
+    record { kinds = listed-of t last k; operands-once = distinct-of (rowsRead t 0 last) r; targets-once = distinct-of (rowsWritten t 0 last) w; reads-unwritten = unwritten-of t last u }
+
+pub last-of : (t : Table) (n : ℕ) → T (distinct (rowsNamed (recordOf t n))) → T (apart (rowsRead t 0 n) (rowsNamed (recordOf t n))) → T (absent (writes t n) (rowsWritten t 0 n)) → LastRecord t 0 n
+last-of t n d r w =
+    record {
+      named-once = distinct-of (rowsNamed (recordOf t n)) d;
+      unread = apart-of (rowsRead t 0 n) (rowsNamed (recordOf t n)) r;
+      unwritten = missing-of (writes t n) (rowsWritten t 0 n) w;
+    }
 
 -- ---- all starts
 
