@@ -1,17 +1,16 @@
 -- Where each output bit of a kind that moves bits comes from, for every width. Assumes nothing.
-use mathlib.Core.Path.{_≡_, refl, ap, _∙_}
+use mathlib.Core.Path.{_≡_, refl, _∙_}
 use mathlib.Core.Logic.{inl, inr}
 use mathlib.Core.List.{[], _∷_}
-use Prim.Native.Nat.{ℕ, _+_, _-_, _*_, _/_, _^_, _≤_, _<_, min}
+use Prim.Native.Nat.{ℕ, _+_, _-_, _≤_, _<_, min}
 use native.Mathlib.Decide.{decLt}
 use native.Mathlib.Omega.{arith}
 use lib.ListN.{getD}
-use Rattle.bits.specs.Bit.{bit}
 use Rattle.bits.proofs.Bits.{bit-above}
-use Rattle.bits.proofs.Shifts.{bit-div, bit-mod, bit-low, bit-high, bit-mul-low, bit-mul-high}
 use Rattle.operations.specs.Bitwise.{opCopy}
 use Rattle.operations.specs.Moves.{opShl, opLshr, opAshr, opExtract, opConcat, opZext, opSext}
 use Rattle.operations.proofs.Bounded.{below-at}
+use Rattle.operations.proofs.MovedBits.{shl-low, shl-high, lshr-bit, extract-bit, concat-low, concat-high}
 use Rattle.operations.proofs.SmtBits.{bit-of}
 use Rattle.logic.proofs.Moving.{Moved}
 
@@ -32,32 +31,21 @@ unfolding opZext
 zext-moved wt wa k l = keep wa k
 
 pub shl-moved : (w p k : ℕ) → k < w → Moved (opShl .plain w (w ∷ []) p) (w ∷ []) k
-unfolding opShl
 shl-moved w p k l =
     elim (decLt k p) [
-      | yes y ↦ inl (λ ns b. bit-mod (getD ns 0 0 * 2 ^ p) w k l ∙ bit-mul-low (getD ns 0 0) p k y)
-      | no n ↦
-          let e : k ≡ k - p + p = omega arith in
-          inr (record {
-            operand = 0;
-            place = k - p;
-            inside = omega arith;
-            moves = λ ns b. bit-mod (getD ns 0 0 * 2 ^ p) w k l ∙ ap (bit (getD ns 0 0 * 2 ^ p)) e ∙ bit-mul-high (getD ns 0 0) p (k - p);
-          })
+      | yes y ↦ inl (λ ns b. shl-low w p (w ∷ []) ns k l y)
+      | no n ↦ inr (record { operand = 0; place = k - p; inside = omega arith; moves = λ ns b. shl-high w p (w ∷ []) ns k l (omega arith) })
     ]
 
 pub lshr-moved : (w p k : ℕ) → k < w → Moved (opLshr .plain w (w ∷ []) p) (w ∷ []) k
-unfolding opLshr
 lshr-moved w p k l =
     elim (decLt (k + p) w) [
-      | yes y ↦ inr (record { operand = 0; place = k + p; inside = y; moves = λ ns b. bit-div (getD ns 0 0) p k })
-      | no n ↦ inl (λ ns b. bit-div (getD ns 0 0) p k ∙ bit-above w (getD ns 0 0) (k + p) (below-at (w ∷ []) ns b 0) (omega arith))
+      | yes y ↦ inr (record { operand = 0; place = k + p; inside = y; moves = λ ns b. lshr-bit w p (w ∷ []) ns k })
+      | no n ↦ inl (λ ns b. lshr-bit w p (w ∷ []) ns k ∙ bit-above w (getD ns 0 0) (k + p) (below-at (w ∷ []) ns b 0) (omega arith))
     ]
 
 pub extract-moved : (wt wa p : ℕ) → p + wt ≤ wa → (k : ℕ) → k < wt → Moved (opExtract .plain wt (wa ∷ []) p) (wa ∷ []) k
-unfolding opExtract
-extract-moved wt wa p h k l =
-    inr (record { operand = 0; place = k + p; inside = omega arith; moves = λ ns b. bit-mod (getD ns 0 0 / 2 ^ p) wt k l ∙ bit-div (getD ns 0 0) p k })
+extract-moved wt wa p h k l = inr (record { operand = 0; place = k + p; inside = omega arith; moves = λ ns b. extract-bit wt p (wa ∷ []) ns k l })
 
 pub ashr-moved : (w p : ℕ) → 1 ≤ w → (k : ℕ) → k < w → Moved (opAshr .plain w (w ∷ []) p) (w ∷ []) k
 unfolding opAshr
@@ -80,16 +68,13 @@ sext-moved wt wa h k l =
     })
 
 pub concat-moved : (wt wa wb : ℕ) → wt ≡ wa + wb → (k : ℕ) → k < wt → Moved (opConcat .plain wt (wa ∷ wb ∷ []) 0) (wa ∷ wb ∷ []) k
-unfolding opConcat
 concat-moved wt wa wb h k l =
     elim (decLt k wb) [
-      | yes y ↦ inr (record { operand = 1; place = k; inside = y; moves = λ ns b. bit-low (getD ns 0 0) wb (getD ns 1 0) k y })
-      | no n ↦
-          let e : k ≡ k - wb + wb = omega arith in
-          inr (record {
-            operand = 0;
-            place = k - wb;
-            inside = omega arith;
-            moves = λ ns b. ap (bit (getD ns 0 0 * 2 ^ wb + getD ns 1 0)) e ∙ bit-high (getD ns 0 0) wb (getD ns 1 0) (k - wb) (below-at (wa ∷ wb ∷ []) ns b 1);
-          })
+      | yes y ↦ inr (record { operand = 1; place = k; inside = y; moves = λ ns b. concat-low wt 0 (wa ∷ wb ∷ []) ns k y })
+      | no n ↦ inr (record {
+        operand = 0;
+        place = k - wb;
+        inside = omega arith;
+        moves = λ ns b. concat-high wt 0 (wa ∷ wb ∷ []) ns k (below-at (wa ∷ wb ∷ []) ns b 1) (omega arith);
+      })
     ]

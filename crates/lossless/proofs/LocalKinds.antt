@@ -2,18 +2,19 @@
 --   LocalKind k   the plain number of the kind k is local wherever the widths fit
 use mathlib.Core.Path.{_≡_, refl, sym, ap, ap₂, _∙_, subst}
 use mathlib.Core.Bool.{Bool, true, false, _&&_}
+use mathlib.Core.Logic.{_⊎_, inl, inr}
 use mathlib.Core.List.{List, List·Memᴰ}
-use Prim.Native.Nat.{ℕ, zero, suc, _+_, _-_, _*_, _/_, _%_, _^_, _<_, min, max}
+use Prim.Native.Nat.{ℕ, zero, suc, _+_, _-_, _%_, _^_, _<_, min, max}
 use native.Mathlib.Decide.{decLt}
 use native.Mathlib.Omega.{arith}
 use lib.Dec.{T, eqb, eqb→eq}
 use lib.Bits.{differ}
+use lib.ListN.{getD}
 use Rattle.bits.specs.Bit.{bit, isSet, digit}
 use Rattle.bits.proofs.Below.{someBelow-ext}
 use Rattle.bits.proofs.Bits.{bit-number, bit-and, bit-or, bit-xor}
 use Rattle.bits.proofs.Numbers.{isSet-same}
 use Rattle.bits.proofs.Constants.{bit-complement}
-use Rattle.bits.proofs.Shifts.{bit-div, bit-low, bit-high, bit-mod, bit-mul-low, bit-mul-high}
 use Rattle.vectors.specs.Lists.{All}
 use Rattle.vectors.proofs.Lists.{_⨾_, all-member}
 use Rattle.operations.specs.Kind.{asks, Kind, first, second}
@@ -21,6 +22,7 @@ use Rattle.operations.specs.Bitwise.{opCopy, opNot, opAnd, opOr, opXor}
 use Rattle.operations.specs.Moves.{opShl, opLshr, opRotl, opExtract, opConcat, opZext}
 use Rattle.operations.specs.Result.{Below}
 use Rattle.operations.proofs.Bounded.{below-at}
+use Rattle.operations.proofs.MovedBits.{shl-low, shl-high, lshr-bit, extract-bit, concat-low, concat-high}
 use Rattle.lossless.specs.Conditions.{losslessKinds}
 use Rattle.lossless.proofs.Local.{Local}
 
@@ -41,14 +43,6 @@ local-bits w ws f c law =
       apart = λ ns ms a b k h e. law ns a k h ∙ ap₂ c (e 0 k refl) (e 1 k refl) ∙ sym (law ms b k h);
     }
 
-local-copy : LocalKind opCopy
-unfolding opCopy
-local-copy wt p ws t = local-bits wt ws first (λ x y. x) (λ ns a k h. refl)
-
-local-zext : LocalKind opZext
-unfolding opZext
-local-zext wt p ws t = local-bits wt ws first (λ x y. x) (λ ns a k h. refl)
-
 local-not : LocalKind opNot
 unfolding opNot
 local-not wt p ws t =
@@ -66,66 +60,53 @@ local-xor : LocalKind opXor
 unfolding opXor
 local-xor wt p ws t = local-bits wt ws (opXor .plain wt ws p) differ (λ ns a k h. bit-xor (first ns) (second ns) k)
 
--- ---- movement: bit q of the first operand bears on the bit to which it goes
+-- ---- movement: bit k of the result is 0, or the one operand bit that goes there
+
+local-moved : (w : ℕ) (ws : List ℕ) (f : List ℕ → ℕ) (owner : ℕ → ℕ → ℕ)
+    → ((k : ℕ) → k < w → ((ns : List ℕ) → Below ws ns → bit (f ns) k ≡ 0) ⊎ ((o q : ℕ) × (owner o q ≡ k) × ((ns : List ℕ) → Below ws ns → bit (f ns) k ≡ bit (getD ns o 0) q))) → Local w ws f
+local-moved w ws f owner moved =
+    record {
+      owner = owner;
+      apart = λ ns ms a b k h e. elim (moved k h) [
+        | inl z ↦ z ns a ∙ sym (z ms b)
+        | inr m ↦ let (o, q, p, g) = m in g ns a ∙ e o q p ∙ sym (g ms b)
+      ];
+    }
+
+local-copy : LocalKind opCopy
+unfolding opCopy
+local-copy wt p ws t = local-moved wt ws first (λ o q. q) (λ k h. inr (0, k, refl, (λ ns a. refl)))
+
+local-zext : LocalKind opZext
+unfolding opZext
+local-zext wt p ws t = local-moved wt ws first (λ o q. q) (λ k h. inr (0, k, refl, (λ ns a. refl)))
 
 local-shl : LocalKind opShl
 unfolding opShl
 local-shl wt p ws t =
-    record {
-      owner = λ o q. q + p;
-      apart = λ ns ms a b k h e.
-          let l = below-width k wt (first ws) t h in
-          bit-mod (first ns * 2 ^ p) (first ws) k l ∙ at (first ns) (first ms) k (e 0) ∙ sym (bit-mod (first ms * 2 ^ p) (first ws) k l);
-    }
-  where
-    at : (n m k : ℕ) → ((q : ℕ) → q + p ≡ k → bit n q ≡ bit m q) → bit (n * 2 ^ p) k ≡ bit (m * 2 ^ p) k
-    at n m k e =
-        elim (decLt k p) [
-          | yes l ↦ bit-mul-low n p k l ∙ sym (bit-mul-low m p k l)
-          | no l ↦
-              let d : k - p + p ≡ k = omega arith in
-              subst (λ (j : ℕ). bit (n * 2 ^ p) j ≡ bit (m * 2 ^ p) j) d (bit-mul-high n p (k - p) ∙ e (k - p) d ∙ sym (bit-mul-high m p (k - p)))
-        ]
+    local-moved wt ws (opShl .plain wt ws p) (λ o q. q + p) (λ k h.
+    let l = below-width k wt (first ws) t h in
+    elim (decLt k p) [
+      | yes y ↦ inl (λ ns a. shl-low wt p ws ns k l y)
+      | no n ↦ inr (0, k - p, omega arith, (λ ns a. shl-high wt p ws ns k l (omega arith)))
+    ])
 
 local-lshr : LocalKind opLshr
-unfolding opLshr
-local-lshr wt p ws t =
-    record {
-      owner = λ o q. q - p;
-      apart = λ ns ms a b k h e. bit-div (first ns) p k ∙ e 0 (k + p) (omega arith) ∙ sym (bit-div (first ms) p k);
-    }
+local-lshr wt p ws t = local-moved wt ws (opLshr .plain wt ws p) (λ o q. q - p) (λ k h. inr (0, k + p, omega arith, (λ ns a. lshr-bit wt p ws ns k)))
 
 local-extract : LocalKind opExtract
-unfolding opExtract
-local-extract wt p ws t =
-    record {
-      owner = λ o q. q - p;
-      apart = λ ns ms a b k h e.
-          bit-mod (first ns / 2 ^ p) wt k h ∙ bit-div (first ns) p k ∙ e 0 (k + p) (omega arith) ∙ sym (bit-mod (first ms / 2 ^ p) wt k h ∙ bit-div (first ms) p k);
-    }
+local-extract wt p ws t = local-moved wt ws (opExtract .plain wt ws p) (λ o q. q - p) (λ k h. inr (0, k + p, omega arith, (λ ns a. extract-bit wt p ws ns k h)))
 
 local-concat : LocalKind opConcat
-unfolding opConcat
 local-concat wt p ws t =
-    record {
-      owner = own;
-      apart = λ ns ms a b k h e. at (first ns) (second ns) (first ms) (second ms) (below-at ws ns a 1) (below-at ws ms b 1) k (e 0) (e 1);
-    }
+    local-moved wt ws (opConcat .plain wt ws p) own (λ k h. elim (decLt k (second ws)) [
+      | yes y ↦ inr (1, k, refl, (λ ns a. concat-low wt p ws ns k y))
+      | no n ↦ inr (0, k - second ws, omega arith, (λ ns a. concat-high wt p ws ns k (below-at ws ns a 1) (omega arith)))
+    ])
   where
     own : ℕ → ℕ → ℕ
     own zero q = q + second ws
     own (suc o) q = q
-
-    at : (n n′ m m′ : ℕ) → n′ < 2 ^ second ws → m′ < 2 ^ second ws → (k : ℕ) → ((q : ℕ) → q + second ws ≡ k → bit n q ≡ bit m q) → ((q : ℕ) → q ≡ k → bit n′ q ≡ bit m′ q)
-        → bit (n * 2 ^ second ws + n′) k ≡ bit (m * 2 ^ second ws + m′) k
-    at n n′ m m′ l l′ k e e′ =
-        elim (decLt k (second ws)) [
-          | yes h ↦ bit-low n (second ws) n′ k h ∙ e′ k refl ∙ sym (bit-low m (second ws) m′ k h)
-          | no h ↦
-              let d : k - second ws + second ws ≡ k = omega arith in
-              subst (λ (j : ℕ). bit (n * 2 ^ second ws + n′) j ≡ bit (m * 2 ^ second ws + m′) j) d
-              (bit-high n (second ws) n′ (k - second ws) l ∙ e (k - second ws) d ∙ sym (bit-high m (second ws) m′ (k - second ws) l′))
-        ]
 
 -- two tests that are one wherever a third holds
 and-same : (b c d : Bool) → (T b → c ≡ d) → (b && c) ≡ (b && d)

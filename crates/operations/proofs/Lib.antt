@@ -8,6 +8,7 @@ pub mod Twice
 pub mod TwoRows
 pub mod DoubledKinds
 pub mod Spelling
+pub mod MovedBits
 pub mod SmtBits
 pub mod WideNumbers
 pub mod SmtNat
