@@ -73,13 +73,16 @@ local-moved w ws f owner moved =
       ];
     }
 
+local-kept : (w : ℕ) (ws : List ℕ) → Local w ws first
+local-kept w ws = local-moved w ws first (λ o q. q) (λ k h. inr (0, k, refl, (λ ns a. refl)))
+
 local-copy : LocalKind opCopy
 unfolding opCopy
-local-copy wt p ws t = local-moved wt ws first (λ o q. q) (λ k h. inr (0, k, refl, (λ ns a. refl)))
+local-copy wt p ws t = local-kept wt ws
 
 local-zext : LocalKind opZext
 unfolding opZext
-local-zext wt p ws t = local-moved wt ws first (λ o q. q) (λ k h. inr (0, k, refl, (λ ns a. refl)))
+local-zext wt p ws t = local-kept wt ws
 
 local-shl : LocalKind opShl
 unfolding opShl

@@ -1,4 +1,4 @@
--- The bits of a plain number that moves bits: which bit of which operand each is. For widths of every kind and number. Assumes nothing.
+-- Where the bits of the plain numbers of shl, lshr, extract and concat come from: which bit of which operand each is, for any widths. Assumes nothing.
 use mathlib.Core.Path.{_≡_, ap, _∙_}
 use mathlib.Core.List.{List}
 use Prim.Native.Nat.{ℕ, _+_, _-_, _*_, _/_, _^_, _≤_, _<_}
