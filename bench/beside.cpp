@@ -1,6 +1,8 @@
 // Two archives of the library in one program, on the same tables, of the kinds that both know: before_run, before_write and before_read
 // are calls of the older one. Runs first; then write and read of the largest table. Fails if the rows that they leave differ, or the text
-// that they write, or the table that they read; rows named twice are not compared, since what they give changed with 02, request 2.
+// that they write, or the table that they read; rows named twice are not compared, since what they give changed with 02, request 2. An
+// older archive whose records have five words, as before 02, request 11, is lent the same tables in five words, and each archive then
+// writes and reads a text of its own edition.
 #include "goals.h"
 #include "texts.h"
 
@@ -16,12 +18,37 @@ constexpr Goal mixed_goal = {"a run of the mixed table at most 0.8 of its time b
 constexpr Goal add_goal = {"a run of the add records at most 0.75 of its time before", 0.75, false};
 constexpr Goal twice_goal = {"a run of records that name one row twice at most its time before", 1, false};
 
-bool knows(Run *run, uint32_t kind)
+// What a record of a kind on one row, of so many words, is refused as.
+uint32_t refusal_of(Run *run, uint32_t kind, std::size_t count)
 {
     uint8_t width = 1, lock = 0;
     uint32_t mask = 0, value = 0, words[RIFFLERLEEK_RECORD_WORDS] = {kind};
-    rifflerleek_answer a = run(&width, 1, &lock, 1, &mask, 1, &value, 1, words, RIFFLERLEEK_RECORD_WORDS, 0, 0);
-    return a.refusal != RIFFLERLEEK_REFUSED_KIND;
+    return run(&width, 1, &lock, 1, &mask, 1, &value, 1, words, count, 0, 0).refusal;
+}
+
+// How many words a record has to an archive.
+std::size_t record_words(Run *run)
+{
+    bool six = refusal_of(run, RIFFLERLEEK_KIND_COPY, RIFFLERLEEK_RECORD_WORDS) != RIFFLERLEEK_REFUSED_RECORDS;
+    return six ? RIFFLERLEEK_RECORD_WORDS : RIFFLERLEEK_RECORD_WORDS - 1;
+}
+
+// The table as an archive takes it. In five words the condition of an ite is its parameter.
+Table lent_to(Run *run, const Table &t)
+{
+    if (record_words(run) == RIFFLERLEEK_RECORD_WORDS)
+        return t;
+    Table five = {t.width, t.lock, t.mask, t.value, {}};
+    for (std::size_t i = 0; i < t.words.size(); i += RIFFLERLEEK_RECORD_WORDS) {
+        const uint32_t *w = &t.words[i];
+        five.words.insert(five.words.end(), {w[0], w[1], w[2], w[3], w[4] | w[5]});
+    }
+    return five;
+}
+
+bool knows(Run *run, uint32_t kind)
+{
+    return refusal_of(run, kind, record_words(run)) != RIFFLERLEEK_REFUSED_KIND;
 }
 
 // How many kinds both archives know.
@@ -36,7 +63,7 @@ uint32_t common_kinds()
 // Whether both leave the same rows.
 bool agree(const Table &start)
 {
-    Table before = start, after = start;
+    Table before = lent_to(before_run, start), after = start;
     run_records(before_run, before, RECORDS);
     run_records(rifflerleek_run, after, RECORDS);
     return before.mask == after.mask && before.value == after.value;
@@ -61,14 +88,16 @@ bool agree_on(const std::vector<Table> &starts)
 
 bool compare_runs(uint32_t kinds)
 {
-    std::vector<Table> starts = draw_tables(kinds), tables = starts;
+    std::vector<Table> starts = draw_tables(kinds), tables = starts, before;
     if (!agree_on(starts))
         return false;
+    for (const Table &t : starts)
+        before.push_back(lent_to(before_run, t));
     std::vector<Pass> contestants;
     for (std::size_t i = 0; i < starts.size(); i++)
         for (std::size_t last : {std::size_t{RECORDS}, std::size_t{0}})
-            for (Run *run : {before_run, rifflerleek_run})
-                contestants.push_back(pass_from(run, tables[i], starts[i], last));
+            contestants.insert(contestants.end(), {pass_from(before_run, before[i], starts[i], last),
+                                                   pass_from(rifflerleek_run, tables[i], starts[i], last)});
     std::vector<double> times = measure(contestants);
     std::vector<Line> lines = {{"table", "work", "before, ns a record", "after, ns a record", "after / before"}};
     for (std::size_t i = 0; i < starts.size(); i++) {
@@ -83,33 +112,34 @@ bool compare_runs(uint32_t kinds)
     return true;
 }
 
-// The line of a call on the text of the largest table, from the times before and after.
-Line text_line(const char *call, std::size_t bytes, const double *times)
+// The line of a call on the texts of the largest table, from the times before and after.
+Line text_line(const char *call, const Bytes &before, const Bytes &after, const double *times)
 {
     return {call,
-            std::to_string(bytes),
+            std::to_string(after.size()),
             figure(times[0]),
             figure(times[1]),
-            figure(rate(bytes, times[0])),
-            figure(rate(bytes, times[1])),
+            figure(rate(before.size(), times[0])),
+            figure(rate(after.size(), times[1])),
             figure(times[1] / times[0])};
 }
 
 bool compare_texts(uint32_t kinds)
 {
-    const Table t = draw_largest(kinds);
-    const Bytes text = text_of(before_write, t);
-    if (text_of(rifflerleek_write, t) != text || !same(table_of(before_read, text, t), t) || !same(table_of(rifflerleek_read, text, t), t)) {
+    const Table t = draw_largest(kinds), s = lent_to(before_run, t);
+    const Bytes before = text_of(before_write, s), after = text_of(rifflerleek_write, t);
+    bool one_text = before == after || record_words(before_run) != RIFFLERLEEK_RECORD_WORDS;
+    if (!one_text || !same(table_of(before_read, before, s), s) || !same(table_of(rifflerleek_read, after, t), t)) {
         std::printf("the largest table: the two archives write different texts, or read another table\n");
         return false;
     }
-    Table r = t;
+    Table r = t, q = s;
     Bytes out(MOST_BYTES);
-    std::vector<double> times = measure({[&] { write_text(before_write, t, out); }, [&] { write_text(rifflerleek_write, t, out); },
-                                         [&] { read_text(before_read, text, r); }, [&] { read_text(rifflerleek_read, text, r); }});
+    std::vector<double> times = measure({[&] { write_text(before_write, s, out); }, [&] { write_text(rifflerleek_write, t, out); },
+                                         [&] { read_text(before_read, before, q); }, [&] { read_text(rifflerleek_read, after, r); }});
     print_markdown({{"call", "bytes", "before, ns", "after, ns", "before, million bytes a second", "after, million bytes a second", "after / before"},
-                    text_line("write", text.size(), &times[0]),
-                    text_line("read", text.size(), &times[2])});
+                    text_line("write", before, after, &times[0]),
+                    text_line("read", before, after, &times[2])});
     return true;
 }
 

@@ -50,7 +50,7 @@ int main()
                     line_of("size", LINES, text.size(), times[0]),
                     line_of("write", LINES, text.size(), times[1]),
                     line_of("read", LINES, text.size(), times[2]),
-                    line_of("read of a listing", LINES + 1, listing.size(), times[3])});
+                    line_of("read of a listing", LINES, listing.size(), times[3])});
     std::printf("\n");
     print_verdict(size_goal, {{"size / write", times[0] / times[1]}});
     print_verdict(listing_goal, {{"read of a listing / read", times[3] / times[2]}});

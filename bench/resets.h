@@ -51,7 +51,7 @@ inline Table draw_chain(const Kinds &kinds, uint32_t rows, uint32_t records)
         const Shape &s = shapes[kinds[below(random, static_cast<uint32_t>(kinds.size()))]];
         uint32_t target = r == 0 ? 0 : 1 + below(random, rows - 1), a = r == 0 ? 1 : last_target(t);
         uint32_t b = s.b == 0 ? 0 : below(random, rows), p = s.numbers == WIDTH ? below(random, SHIFTS) : 0;
-        t.words.insert(t.words.end(), {s.kind, target, a, b, p});
+        t.words.insert(t.words.end(), {s.kind, target, a, b, p, 0});
     }
     return t;
 }
@@ -69,7 +69,7 @@ inline Table draw_slow()
         t.value[i] = row.value;
     }
     for (uint32_t r = 0; r < RECORDS; r++)
-        t.words.insert(t.words.end(), {RIFFLERLEEK_KIND_SMULW, SLOW_ROWS, below(random, SLOW_ROWS), below(random, SLOW_ROWS), 0});
+        t.words.insert(t.words.end(), {RIFFLERLEEK_KIND_SMULW, SLOW_ROWS, below(random, SLOW_ROWS), below(random, SLOW_ROWS), 0, 0});
     return t;
 }
 

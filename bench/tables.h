@@ -19,7 +19,7 @@ using Groups = std::vector<Group>;
 
 // A kind's record: the widths of its rows, 0 where it has no such row, and how many numbers its parameter may be.
 struct Shape {
-    uint32_t kind, t, a, b, p, numbers;
+    uint32_t kind, t, a, b, c, numbers;
 };
 
 // What a table is made of. Where records are chained they read open rows too, so what others wrote, else inputs alone. Where they
@@ -36,7 +36,7 @@ struct Table {
     std::vector<uint32_t> mask, value, words;
 };
 
-// By kind.
+// By kind, without those that have cells.
 inline constexpr Shape shapes[KINDS] = {
     {RIFFLERLEEK_KIND_COPY, 32, 32, 0, 0, 0},     {RIFFLERLEEK_KIND_NOT, 32, 32, 0, 0, 0},     {RIFFLERLEEK_KIND_AND, 32, 32, 32, 0, 0},
     {RIFFLERLEEK_KIND_OR, 32, 32, 32, 0, 0},      {RIFFLERLEEK_KIND_XOR, 32, 32, 32, 0, 0},    {RIFFLERLEEK_KIND_SHL, 32, 32, 0, 0, 32},
@@ -55,7 +55,7 @@ inline const Groups three_widths = {{32, 0, 40}, {16, 40, 12}, {1, 52, 12}};
 enum { MIXED, ADD, MUL, TWICE };
 
 inline const Plan plans[] = {
-    {"every kind, mixed", three_widths, true, false, 0, KINDS},
+    {"every kind without cells, mixed", three_widths, true, false, 0, KINDS},
     {"add", one_width, false, false, RIFFLERLEEK_KIND_ADD, 1},
     {"mul", one_width, false, false, RIFFLERLEEK_KIND_MUL, 1},
     {"every operand named twice", three_widths, true, true, 0, KINDS},
@@ -118,8 +118,8 @@ inline void draw_record(std::mt19937 &random, const Plan &plan, Table &t)
     uint32_t target = draw_target(random, plan, s.t);
     uint32_t a = draw_operand(random, plan, s.a);
     uint32_t b = draw_second(random, plan, s, a);
-    uint32_t p = s.numbers > 0 ? below(random, s.numbers) : draw_operand(random, plan, s.p);
-    t.words.insert(t.words.end(), {s.kind, target, a, b, p});
+    uint32_t p = s.numbers > 0 ? below(random, s.numbers) : 0;
+    t.words.insert(t.words.end(), {s.kind, target, a, b, p, draw_operand(random, plan, s.c)});
 }
 
 inline Table draw_table(std::mt19937 &random, const Plan &plan)

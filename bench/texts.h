@@ -9,10 +9,10 @@ using Bytes = std::vector<uint8_t>;
 using Write = decltype(rifflerleek_write);
 using Read = decltype(rifflerleek_read);
 
-inline constexpr std::size_t ROWS = RIFFLERLEEK_ROW_LIMIT, LINES = ROWS + RECORDS;
+inline constexpr std::size_t ROWS = RIFFLERLEEK_ROW_LIMIT, LINES = 1 + ROWS + RECORDS;
 
 // Room for every text of ROWS rows and RECORDS records; before 02, request 1 write asked for as much.
-inline constexpr std::size_t MOST_BYTES = RIFFLERLEEK_ROW_BYTES * ROWS + RIFFLERLEEK_RECORD_BYTES * RECORDS;
+inline constexpr std::size_t MOST_BYTES = RIFFLERLEEK_HEADER_BYTES + RIFFLERLEEK_ROW_BYTES * ROWS + RIFFLERLEEK_RECORD_BYTES * RECORDS;
 
 inline const Groups all_rows = {{32, 0, 200}, {16, 200, 28}, {1, 228, 28}};
 
@@ -80,18 +80,30 @@ inline uint8_t draw_letter(std::mt19937 &random, uint8_t byte)
     }
 }
 
-// The largest table's text as a listing: a header, and other letters in the row lines.
+// A record line of edition 3, without its LF, as one of edition 2: an ite loses its parameter, any other kind its sixth word.
+inline std::string older_record(const std::string &line)
+{
+    std::size_t last = line.rfind('\t');
+    if (line.rfind("op\tite\t", 0) != 0)
+        return line.substr(0, last);
+    return line.substr(0, line.rfind('\t', last - 1)) + line.substr(last);
+}
+
+// The largest table's text as a listing: another header, other letters in the row lines, and four numbers in the record lines.
 inline Bytes listing_of(const Bytes &text)
 {
-    const std::string header = "edition\t2\n";
     std::mt19937 random(SEED);
-    Bytes listing(header.begin(), header.end());
-    std::size_t line = 0;
-    for (uint8_t byte : text) {
-        listing.push_back(line < ROWS ? draw_letter(random, byte) : byte);
-        line += byte == '\n';
+    std::string listing = "edition\t2\n", all(text.begin() + RIFFLERLEEK_HEADER_BYTES, text.end());
+    for (std::size_t start = 0, end; start < all.size(); start = end + 1) {
+        end = all.find('\n', start);
+        std::string line = all.substr(start, end - start);
+        if (line[0] == 'o')
+            line = older_record(line);
+        else
+            std::transform(line.begin(), line.end(), line.begin(), [&](char c) { return draw_letter(random, static_cast<uint8_t>(c)); });
+        listing += line + '\n';
     }
-    return listing;
+    return Bytes(listing.begin(), listing.end());
 }
 
 // Million bytes a second, of a time in nanoseconds.

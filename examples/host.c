@@ -9,17 +9,18 @@ enum { ROWS = RIFFLERLEEK_ROW_LIMIT, WORDS = RIFFLERLEEK_RECORD_WORDS, RECORDS =
 // The library has no memory of its own: a host lends it these.
 static uint8_t width[ROWS], lock[ROWS];
 static uint32_t mask[ROWS], value[ROWS], words[WORDS * RECORDS];
-static uint8_t out[RIFFLERLEEK_ROW_BYTES * ROWS + RIFFLERLEEK_RECORD_BYTES * RECORDS];
+static uint8_t out[RIFFLERLEEK_HEADER_BYTES + RIFFLERLEEK_ROW_BYTES * ROWS + RIFFLERLEEK_RECORD_BYTES * RECORDS];
 static size_t rows, records;
 
-static const char text[] = "row\tlocked\t0000XXXX\n" // 0: index, 0 to 15
+static const char text[] = "edition\t3\n"
+                           "row\tlocked\t0000XXXX\n" // 0: index, 0 to 15
                            "row\tlocked\t01000000\n" // 1: start of the array
                            "row\tlocked\t10000000\n" // 2: its end
                            "row\topen\t00000000\n"   // 3: address
                            "row\topen\t0\n"          // 4: inside
-                           "op\tshl\t3\t0\t0\t2\n"
-                           "op\tadd\t3\t3\t1\t0\n"
-                           "op\tult\t4\t3\t2\t0\n";
+                           "op\tshl\t3\t0\t0\t2\t0\n"
+                           "op\tadd\t3\t3\t1\t0\t0\n"
+                           "op\tult\t4\t3\t2\t0\t0\n";
 
 // Whether a call was refused: says so, and why.
 static int refused(const char *call, uint32_t refusal, size_t place)
@@ -95,12 +96,13 @@ static void fader(void)
         printf("XXXXXXX0 between 37 and 47: mask %02x, value %02x, smallest %u, largest %u\n", n.first, n.second, n.third, n.fourth);
 }
 
-static const char reset[] = "row\topen\t00010000\n"   // 0: base, at reset
+static const char reset[] = "edition\t3\n"
+                            "row\topen\t00010000\n"   // 0: base, at reset
                             "row\topen\t00000001\n"   // 1: index, at reset
                             "row\tlocked\t00000100\n" // 2: stride, a constant
                             "row\topen\t00000000\n"   // 3: address
-                            "op\tmul\t3\t1\t2\t0\n"
-                            "op\tadd\t3\t0\t3\t0\n";
+                            "op\tmul\t3\t1\t2\t0\t0\n"
+                            "op\tadd\t3\t0\t3\t0\t0\n";
 
 // Which resets of base and index the top bit of the address needs: the others become X.
 static void resets(void)
@@ -127,7 +129,7 @@ int main(void)
     words[WORDS * 1 + 1] = 1; // add, into the locked row 1
     run();
 
-    if (load("row\topen\t0X\nop\tadd\t0\t0\t00\t0\n")) // 0 is written with one digit
+    if (load("edition\t3\nrow\topen\t0X\nop\tadd\t0\t0\t00\t0\t0\n")) // 0 is written with one digit
         return 1;
 
     product(); // 3 or 9

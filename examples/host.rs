@@ -88,14 +88,15 @@ fn field(text: &str, line: usize, field: usize) -> &str {
     &text[a.result..a.second_result as usize]
 }
 
-const TEXT: &str = "row\tlocked\t0000XXXX
+const TEXT: &str = "edition\t3
+row\tlocked\t0000XXXX
 row\tlocked\t01000000
 row\tlocked\t10000000
 row\topen\t00000000
 row\topen\t0
-op\tshl\t3\t0\t0\t2
-op\tadd\t3\t3\t1\t0
-op\tult\t4\t3\t2\t0
+op\tshl\t3\t0\t0\t2\t0
+op\tadd\t3\t3\t1\t0\t0
+op\tult\t4\t3\t2\t0\t0
 ";
 
 fn run_and_print(t: &mut Table, row: usize) -> Result<(), Refusal> {
@@ -128,12 +129,13 @@ fn ask() -> Result<(), Refusal> {
     Ok(())
 }
 
-const RESET: &str = "row\topen\t00010000
+const RESET: &str = "edition\t3
+row\topen\t00010000
 row\topen\t00000001
 row\tlocked\t00000100
 row\topen\t00000000
-op\tmul\t3\t1\t2\t0
-op\tadd\t3\t0\t3\t0
+op\tmul\t3\t1\t2\t0\t0
+op\tadd\t3\t0\t3\t0\t0
 ";
 
 // Which resets of base (row 0) and index (row 1) the top bit of the address (row 3) needs: the others become X.
@@ -148,7 +150,7 @@ fn main() {
     if let Err(r) = evaluate() {
         println!("run: refusal {} at {}", r.number, r.place);
     }
-    let bad = "row\topen\t0X\nop\tadd\t0\t0\t00\t0\n"; // 0 is written with one digit
+    let bad = "edition\t3\nrow\topen\t0X\nop\tadd\t0\t0\t00\t0\t0\n"; // 0 is written with one digit
     if let Err(r) = Table::read(bad.as_bytes()) {
         println!("read: refusal {} at {}", r.number, r.place);
         println!("its second field: {}", field(bad, r.place, 2));

@@ -2,7 +2,7 @@
 
 pub const ROW_LIMIT: usize = 256;
 pub const RECORD_LIMIT: usize = 1024;
-pub const RECORD_WORDS: usize = 5;
+pub const RECORD_WORDS: usize = 6;
 pub const DONE: u32 = 0;
 pub const UNKNOWN_BIT: usize = 2;
 pub const KIND_ADD: u32 = 13;

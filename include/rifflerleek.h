@@ -3,10 +3,19 @@
  * A table has 1 to RIFFLERLEEK_ROW_LIMIT rows, lent as four slices of equal length, and at most RIFFLERLEEK_RECORD_LIMIT records
  * of RIFFLERLEEK_RECORD_WORDS words each. Rows and records count from 0.
  *   width[i]  the width of row i, 1 to RIFFLERLEEK_WIDTH_LIMIT
- *   lock[i]   0 open, 1 locked: a locked row is no record's target
+ *   lock[i]   0 open, 1 locked: a locked row is no record's target, and in no store's span
  *   mask[i]   bit k is 1 where bit k of the row is unknown (X)
  *   value[i]  bit k is the row's bit k where that is known, and 0 where it is unknown
- *   words     per record: kind, target row t, operand rows a and b, parameter p; an unused word is 0
+ *   words     per record: kind, target row t, operand rows a and b, parameter p, and a sixth word c: the base row of a load or a store,
+ *             the condition row of an ite; an unused word is 0
+ *
+ * Memories. A load and a store have a span, the n rows from row c on: n is the parameter, 1 or more, and the rows are the cells, all of
+ * one width. An address below n names the cell that many rows after row c; it may have any width.
+ *   load      row t becomes the cell that row a addresses, 0 for an address of n or more; b is unused, t has the cells' width
+ *   store     the cell that row a addresses becomes row b, none does for an address of n or more; t is unused, b has the cells' width
+ * Address, data and cells are chosen independently, even where they are one row, and all are read before a row is written. So where the
+ * address is not known a load gives the best vector that covers every cell it can name, and 0 where it can be n or more; and a store
+ * leaves in every cell it can name, but need not, the best vector that covers the old and the new.
  *
  * Bare vectors. A call on bare vectors takes no table. It is passed, as numbers, one width and a mask and a value for each vector,
  * with the same meaning as a row's.
@@ -35,21 +44,23 @@ extern "C" {
 
 /* Rises by one with every change that a host can see: of a name, a number, a call, an answer or a lent byte. The header that had
  * no version is version 1. CHANGELOG.md names the changes. */
-#define RIFFLERLEEK_VERSION 11
+#define RIFFLERLEEK_VERSION 12
 
 /* Limits. */
 #define RIFFLERLEEK_ROW_LIMIT 256      /* rows in a table */
 #define RIFFLERLEEK_RECORD_LIMIT 1024  /* records in a table */
-#define RIFFLERLEEK_RECORD_WORDS 5     /* words in a record */
+#define RIFFLERLEEK_RECORD_WORDS 6     /* words in a record */
 #define RIFFLERLEEK_WIDTH_LIMIT 32     /* bits in a row, or in a bare vector */
 #define RIFFLERLEEK_PARAMETER_LIMIT 31 /* greatest shift, rotation or extract parameter */
 #define RIFFLERLEEK_TEXT_LIMIT 40000   /* bytes in a text, with its header */
 #define RIFFLERLEEK_NUMBER_LIMIT 999   /* greatest number in a text */
+#define RIFFLERLEEK_OLDER_KINDS 24     /* kinds in a text of edition 1 or 2, which has no load and no store */
 
-/* The text that rifflerleek_write prints has at most ROW_BYTES for each row and RECORD_BYTES for each record; rifflerleek_size answers
- * how many it has. */
+/* The text that rifflerleek_write prints has HEADER_BYTES, and at most ROW_BYTES for each row and RECORD_BYTES for each record;
+ * rifflerleek_size answers how many it has. */
+#define RIFFLERLEEK_HEADER_BYTES 10
 #define RIFFLERLEEK_ROW_BYTES 44
-#define RIFFLERLEEK_RECORD_BYTES 24
+#define RIFFLERLEEK_RECORD_BYTES 27
 
 #define RIFFLERLEEK_UNKNOWN_BIT 2 /* result of rifflerleek_product_bit: the bit is unknown (X) */
 
@@ -59,19 +70,19 @@ extern "C" {
  * machine code of the archive and compares them with these; they are not proved.
  *
  *   call                     depth  stack
- *   rifflerleek_run              5    808
+ *   rifflerleek_run              5    856
  *   rifflerleek_count            1     40
- *   rifflerleek_size             3    372
- *   rifflerleek_write            3    628
- *   rifflerleek_read             3    488
+ *   rifflerleek_size             3    408
+ *   rifflerleek_write            3    696
+ *   rifflerleek_read             4    728
  *   rifflerleek_field            1     16
  *   rifflerleek_product_bit      2    424
  *   rifflerleek_witnesses        3    568
  *   rifflerleek_range            1     80
- *   rifflerleek_reset_bits       5   2888
+ *   rifflerleek_reset_bits       5   2936
  */
 #define RIFFLERLEEK_DEPTH_LIMIT 5    /* the greatest depth of a call */
-#define RIFFLERLEEK_STACK_LIMIT 2888 /* the greatest stack of a call, in bytes */
+#define RIFFLERLEEK_STACK_LIMIT 2936 /* the greatest stack of a call, in bytes */
 
 /* A result: refusal is RIFFLERLEEK_DONE, place is 0, and result and second_result are what the call says, else 0. A refusal: its
  * number and its place; result and second_result are 0. */
@@ -118,7 +129,9 @@ enum {
     RIFFLERLEEK_KIND_ITE = 20,
     RIFFLERLEEK_KIND_UMULW = 21,
     RIFFLERLEEK_KIND_SMULW = 22,
-    RIFFLERLEEK_KIND_SUMULW = 23
+    RIFFLERLEEK_KIND_SUMULW = 23,
+    RIFFLERLEEK_KIND_LOAD = 24,
+    RIFFLERLEEK_KIND_STORE = 25
 };
 
 /* The refusals: their condition, and their place after the semicolon. The first condition that holds refuses, in this order:
@@ -135,21 +148,23 @@ enum {
     RIFFLERLEEK_DONE = 0,            /* no refusal */
     RIFFLERLEEK_REFUSED_ROWS = 1,    /* the width slice has no row, or more than the row limit; place 0 */
     RIFFLERLEEK_REFUSED_LENGTHS = 2, /* the four row slices differ in length; place 0 */
-    RIFFLERLEEK_REFUSED_RECORDS = 3, /* the words are not whole records, or more than the record limit; in run also: first is after
-                                        last, or last is past the end; place 0 */
+    RIFFLERLEEK_REFUSED_RECORDS = 3, /* the words are not whole records, of six each, or more than the record limit; in run also: first
+                                        is after last, or last is past the end; place 0 */
     RIFFLERLEEK_REFUSED_WIDTH = 4,   /* a width is 0 or over the width limit, or a lock is over 1; the row (of bare vectors: 0) */
     RIFFLERLEEK_REFUSED_VECTOR = 5,  /* mask and value share a set bit, or one has a bit at or above the width; the row (of bare
                                         vectors: 0) */
     RIFFLERLEEK_REFUSED_KIND = 6,    /* no kind has this number; the record. In witnesses: the kind is not add, sub or mul; place 0 */
-    RIFFLERLEEK_REFUSED_ROW = 7,     /* a used row word is outside the table; the record. Or the row that count or reset_bits is asked of
-                                        is; that row */
-    RIFFLERLEEK_REFUSED_WORD = 8,    /* an unused word is not 0, or a parameter is over the parameter limit; the record */
-    RIFFLERLEEK_REFUSED_FIT = 9,     /* the widths of target and operands do not fit the kind; the record */
-    RIFFLERLEEK_REFUSED_LOCKED = 10, /* the target row is locked; the record, inside the stretch or not */
+    RIFFLERLEEK_REFUSED_ROW = 7,     /* a used row word is outside the table, a base row and a condition among them, or a span ends past
+                                        it; the record. Or the row that count or reset_bits is asked of is; that row */
+    RIFFLERLEEK_REFUSED_WORD = 8,    /* an unused word is not 0, a parameter is over the parameter limit, or a span has no cell; the
+                                        record */
+    RIFFLERLEEK_REFUSED_FIT = 9,     /* the widths of target and operands do not fit the kind, or a cell has another width than a load's
+                                        target or a store's data; the record */
+    RIFFLERLEEK_REFUSED_LOCKED = 10, /* the target row is locked, or a row of a store's span is; the record, inside the stretch or not */
     RIFFLERLEEK_REFUSED_LONG = 11,   /* the text is longer than the text limit; place 0 */
     RIFFLERLEEK_REFUSED_LINE = 12,   /* a line outside the grammar, a row line after a record line, or no final LF; the first such
                                         line, from 1 (for a missing LF the last line). A header is line 1; on a later line, or of
-                                        another edition than 2, it is outside the grammar */
+                                        another edition than 2 and 3, it is outside the grammar */
     RIFFLERLEEK_REFUSED_ROOM = 13,   /* row lines or record words exceed the lent slices; place 0 */
     RIFFLERLEEK_REFUSED_BUFFER = 14, /* the output buffer is shorter than the table's text; place 0 */
     RIFFLERLEEK_REFUSED_BIT = 15,    /* the bit number is at or above the width; place 0 */
@@ -160,8 +175,9 @@ enum {
 };
 
 /* Runs the records from first up to but not including last, after a check of the whole table. result is last, and mask and value
- * hold the rows that the stretch leaves, each target the best vector that covers every result. Where the words a and b of a record
- * name one row, both operands are the same number; for RIFFLERLEEK_KIND_MUL, _UMULW, _SMULW and _SUMULW they stay independent.
+ * hold the rows that the stretch leaves, each target, and each cell of a store, the best vector that covers every result. Where the
+ * words a and b of a record name one row, both operands are the same number; for RIFFLERLEEK_KIND_MUL, _UMULW, _SMULW, _SUMULW and
+ * _STORE they stay independent.
  * Refusals 1 to 10: no row is changed, also not by the records before the one refused. */
 rifflerleek_answer rifflerleek_run(const uint8_t *width, size_t widths, const uint8_t *lock, size_t locks, uint32_t *mask,
                                    size_t masks, uint32_t *value, size_t values, const uint32_t *words, size_t word_count,
@@ -177,8 +193,8 @@ rifflerleek_answer rifflerleek_size(const uint8_t *width, size_t widths, const u
                                     const uint32_t *mask, size_t masks, const uint32_t *value, size_t values,
                                     const uint32_t *words, size_t word_count);
 
-/* Writes the table's text to the start of out, in the letters 0, 1, X and without a header. result is the text's number of bytes; the
- * bytes of out after them are as they were. Refusals 1 to 9, then 14: no byte of out is changed. */
+/* Writes the table's text to the start of out, of edition 3, with its header. result is the text's number of bytes, the header's among
+ * them; the bytes of out after them are as they were. Refusals 1 to 9, then 14: no byte of out is changed. */
 rifflerleek_answer rifflerleek_write(const uint8_t *width, size_t widths, const uint8_t *lock, size_t locks,
                                      const uint32_t *mask, size_t masks, const uint32_t *value, size_t values,
                                      const uint32_t *words, size_t word_count, uint8_t *out, size_t out_length);
@@ -187,10 +203,12 @@ rifflerleek_answer rifflerleek_write(const uint8_t *width, size_t widths, const 
  * elements after those are as they were. Refusals 2, 11, 12, 13: no element is changed. An empty text has no rows and no records,
  * nor has a header alone; the row slices may be longer than RIFFLERLEEK_ROW_LIMIT.
  *
- * Editions. A text without a header is of edition 1 and has the letters 0, 1, X. A text of edition 2, such as a simulator's listing,
- * begins with a header, the ten bytes "edition\t2\n", and has nine letters: 0 and L mean 0; 1 and H mean 1; U, X, Z, W and - mean X.
- * All else is the same in both. Where what was read passes the table checks, rifflerleek_write prints a text of edition 1 as it was,
- * and of a text of edition 2 its meaning: no header, and 0, 1 or X for each letter. */
+ * Editions. A text of edition 3 begins with a header, the ten bytes "edition\t3\n"; it has the letters 0, 1, X, and five numbers a
+ * record: t, a, b, p and c. The older two are read only. They have four numbers a record and no load or store; the fourth number of an
+ * ite becomes c, and its parameter 0, and c is 0 for every other kind. A text without a header is of edition 1 and has the letters 0, 1,
+ * X. A text of edition 2, such as a simulator's listing, begins with the header "edition\t2\n" and has nine letters: 0 and L mean 0; 1
+ * and H mean 1; U, X, Z, W and - mean X. Where what was read passes the table checks, rifflerleek_write prints a text of edition 3 as it
+ * was, and of an older one its form in edition 3. Refusal 13 counts six words a record, of every edition. */
 rifflerleek_answer rifflerleek_read(const uint8_t *text, size_t text_length, uint8_t *width, size_t widths, uint8_t *lock,
                                     size_t locks, uint32_t *mask, size_t masks, uint32_t *value, size_t values,
                                     uint32_t *words, size_t word_count);

@@ -6,8 +6,8 @@
 
 enum { GUARD = 64 };
 
-const char *const call_names[CALLS] = {"run",   "count",       "size",      "write", "read",      "listing",
-                                       "field", "product_bit", "witnesses", "range", "reset_bits"};
+const char *const call_names[CALLS] = {"run",    "count", "size",        "write",     "read 1", "read 2",
+                                       "read 3", "field", "product_bit", "witnesses", "range",  "reset_bits"};
 unsigned seen[CALLS][REFUSALS];
 size_t call_number;
 

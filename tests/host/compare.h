@@ -5,8 +5,8 @@
 #include "library.h"
 #include "draw.h"
 
-// The calls, read twice: of a text without the header, and of a listing, which has it.
-enum { RUN, COUNT, SIZE, WRITE, READ, LISTING, FIELD, PRODUCT_BIT, WITNESSES, RANGE, RESET_BITS, CALLS, REFUSALS = 20 };
+// The calls, read three times: of a text of each edition.
+enum { RUN, COUNT, SIZE, WRITE, READ_1, READ_2, READ_3, FIELD, PRODUCT_BIT, WITNESSES, RANGE, RESET_BITS, CALLS, REFUSALS = 20 };
 
 extern const char *const call_names[CALLS];
 

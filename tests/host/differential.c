@@ -1,9 +1,10 @@
 // Random calls, valid and damaged, every range to width 5, and the resets of small tables: the library and the reference must give the same
 // answer (of witnesses the same refusal, else pairs that the reference finds right) and leave the same bytes, also around and beyond what
 // they write; and a text that was read must be written back as it should. Every answer of every call, and every kind of record, must occur,
-// each kind of two operands also with one row named twice, and what the reports of texts, vectors, ranges and resets count; and no call
-// may take more stack than the header says, which tests/host/depth reads off the archive.
+// each kind of two operands also with one row named twice, and what the reports of memories, texts, vectors, ranges and resets count; and
+// no call may take more stack than the header says, which tests/host/depth reads off the archive.
 // usage: differential [SEED [CALLS]]
+#include "memory_counts.h"
 #include "range_calls.h"
 #include "reset_calls.h"
 #include "text_calls.h"
@@ -13,7 +14,8 @@
 #include <time.h>
 
 // The answers that each call has, as bits: bit 0 for a result, bit n for refusal n.
-static const unsigned answers[CALLS] = {0x7ff, 0x0b7, 0x3ff, 0x43ff, 0x3805, 0x3805, 0x0001, 0x8031, 0x18071, 0x60031, 0x887ff};
+static const unsigned answers[CALLS] = {0x7ff,  0x0b7,  0x3ff,  0x43ff,  0x3805,  0x3805,
+                                        0x3805, 0x0001, 0x8031, 0x18071, 0x60031, 0x887ff};
 
 static unsigned steps[KINDS], steps_twice[KINDS];
 
@@ -41,8 +43,9 @@ static void call_run(void)
     t = lend_table(&d, &r);
     rifflerleek_answer a = library_run(&t, d.first, d.last);
     compare(RUN, a, ref_run(&r, d.first, d.last, LIMIT, &exact));
+    count_memories(&d, a);
     for (size_t i = d.first; i < d.last && a.refusal == 0; i++) {
-        const uint32_t *record = d.words + 5 * i;
+        const uint32_t *record = d.words + RECORD_WORDS * i;
         steps[record[0]]++;
         steps_twice[record[0]] += (unsigned)ref_named_twice(record);
     }
@@ -123,11 +126,12 @@ static int report(void)
     }
     printf("\none row named twice:");
     for (int k = 0; k < KINDS; k++)
-        if (kinds[k].b == ROW) {
+        if (ref_uses((uint32_t)k, 'b')) {
             printf(" %s %u", kinds[k].name, steps_twice[k]);
             missing += steps_twice[k] == 0;
         }
     printf("\n");
+    missing += report_memories();
     missing += report_texts();
     missing += report_vectors();
     missing += report_ranges();

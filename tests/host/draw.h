@@ -6,7 +6,7 @@
 
 // Enough for every text of 40,000 bytes; 2^LIMIT choices of operands for a bit; the styles of draw_vector; the greatest width of narrow
 // rows, which 2^LIMIT choices settle.
-enum { MAX_ROWS = 4000, MAX_WORDS = 15000, MAX_TEXT = 60000, LIMIT = 14, STYLES = 10, NARROW = 6 };
+enum { MAX_ROWS = 4000, MAX_WORDS = 18000, MAX_TEXT = 60000, LIMIT = 14, STYLES = 10, NARROW = 6 };
 
 // A table with slices of any lengths, and a stretch.
 struct draft {
@@ -22,7 +22,7 @@ struct reset {
     uint32_t bit;
 };
 
-// edition: 1 or 2, whose letters the rows have. fault: what is wrong with the header, by number, HEADER_FAULTS where nothing is, and the
+// edition: 1 to 3, whose letters and numbers the lines have. fault: what is wrong with the header, by number, HEADER_FAULTS where nothing is, and the
 // first line that is bad by it.
 struct text {
     uint8_t bytes[MAX_TEXT];
@@ -30,7 +30,7 @@ struct text {
     int edition;
 };
 
-enum { HEADER_FAULTS = 30 };
+enum { HEADER_FAULTS = 32 };
 
 void seed(uint64_t s);
 uint64_t draw(void);
@@ -72,8 +72,11 @@ void damage_table(struct draft *d, unsigned number);
 // faults, of the table, the row or the bit, which may be X. Seldom the table has 256 rows and 1,024 records.
 void draw_reset(struct reset *q);
 
-// A narrow table without a fault, of at most so many known bits in open rows, whose last record has two operands, and a bit of the row that
-// it writes.
+// A row that a record writes, any cell of a store.
+size_t draw_written(const uint32_t *record);
+
+// A narrow table without a fault, of at most so many known bits in open rows, whose last record has two operands or loads, and a bit of a
+// row that it writes.
 void draw_small_reset(struct reset *q, size_t most);
 
 // The known bits of a row of the draft, as a word; one of them made X.
@@ -93,13 +96,13 @@ void damage_header(struct text *x, size_t lines);
 void put_header(struct text *x);
 void put_header_again(struct text *x, size_t i);
 
-// A text of either edition: about half of them are damaged.
+// A text of any edition: about half of them are damaged.
 void draw_text(struct text *x);
 
 // A text of exactly this many bytes, 1,000 at least, without a fault of the grammar.
 void draw_text_of(struct text *x, size_t length);
 
-// The text of a table that size accepts, in letters that mean its rows.
+// The text of a table that size accepts, of any edition; in edition 2 in any letters that mean its rows.
 void draw_text_of_table(struct text *x);
 
 // Where the row lines end that begin at a place of a text without a fault.

@@ -5,8 +5,8 @@
 
 // A line's fields.
 struct line {
-    char fields[8][64];
-    size_t lengths[8], count;
+    char fields[9][64];
+    size_t lengths[9], count;
 };
 
 static void set(struct line *l, size_t i, const char *s)
@@ -53,14 +53,14 @@ static void row_line(struct line *l, int edition)
     letters(l, edition, percent(20) ? 32 : 1 + below(32));
 }
 
-static void record_line(struct line *l)
+static void record_line(struct line *l, int edition)
 {
     static const unsigned limits[] = {10, 100, 256, 1000};
     char number[24];
-    l->count = 6;
+    l->count = edition == EDITIONS ? 7 : 6;
     set(l, 0, "op");
-    set(l, 1, kinds[below(KINDS)].name);
-    for (size_t i = 2; i < 6; i++) {
+    set(l, 1, kinds[below(edition == EDITIONS ? KINDS : LOAD)].name);
+    for (size_t i = 2; i < l->count; i++) {
         sprintf(number, "%zu", below(limits[below(4)]));
         set(l, i, number);
     }
@@ -92,24 +92,25 @@ static void damage_words(struct line *l, int edition)
 {
     static const char *const firsts[] = {"Row", "ro", "rows", "ops", "o", "OP", "row ", "", "op", "row"};
     static const char *const locks[] = {"Open", "lock", "lockedd", "ope", "OPEN", "0", "open "};
-    static const char *const names[] = {"ad", "addd", "ADD", "nop", "div", "13", "sh", "ashrl", "ultt", "it",
-                                        "mulw", "umul", "smulww", "sumul"};
+    static const char *const names[] = {"ad",   "addd", "ADD",    "nop",   "div", "13",     "sh",   "ashrl", "ultt",
+                                        "it",   "mulw", "umul",   "smulww", "sumul", "loads", "loa", "stor", "LOAD",
+                                        "load", "store"}; // the last two are right in edition 3
     static const char *const numbers[] = {"1000", "9999", "18446744073709551616", "4294967296", "00", "000", "+1", "-1", "1a", "1:", "/1", "1.0", "0x1", " 1"};
     int row = l->count == 3;
     switch (below(5)) {
     case 0: set(l, 0, firsts[below(10)]); return;
-    case 1: set(l, 1, row ? locks[below(7)] : names[below(14)]); return;
+    case 1: set(l, 1, row ? locks[below(7)] : names[edition == EDITIONS ? below(18) : percent(70) ? below(20) : 18 + below(2)]); return;
     case 2:
         if (row)
             letters(l, edition, percent(50) ? 33 + below(3) : 0);
         else
-            add_leading_zero(l, 2 + below(4));
+            add_leading_zero(l, 2 + below(l->count - 2));
         return;
     default:
         if (row)
             l->fields[2][below(l->lengths[2])] = no_letter(edition);
         else
-            set(l, 2 + below(4), numbers[below(14)]);
+            set(l, 2 + below(l->count - 2), numbers[below(14)]);
     }
 }
 
@@ -147,6 +148,6 @@ void put_row(struct text *x, int bad)
 void put_record(struct text *x, int bad)
 {
     struct line l;
-    record_line(&l);
+    record_line(&l, x->edition);
     put_damaged(x, &l, bad);
 }

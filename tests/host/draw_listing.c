@@ -1,11 +1,10 @@
-// Listings, which are texts of edition 2: their header, right and wrong, and the letters of a table's text.
+// The headers of texts, right and wrong, and the text of a table in every edition.
 #include "draw.h"
+#include <stdio.h>
 #include <string.h>
 
-static const char header[] = "edition\t2\n";
-
 // What a text with a fault of its header begins with, and its first bad line where no other is damaged. The last one is right, and the
-// fault is that the header comes once more.
+// fault is that the header comes once more. In a text of edition 3 there is a 3 for every 2.
 static const struct {
     const char *bytes;
     size_t line;
@@ -13,7 +12,9 @@ static const struct {
     {"", 1}, // letters of edition 2 without it: line 1, where it has one of the six others
     {"edition\t0\n", 1},
     {"edition\t1\n", 1},
-    {"edition\t3\n", 1},
+    {"edition\t4\n", 1},
+    {"edition\t5\n", 1},
+    {"edition\t10\n", 1},
     {"edition\t02\n", 1},
     {"edition\t22\n", 1},
     {"edition\t2.\n", 1},
@@ -46,7 +47,7 @@ enum { LEFT_OUT = 0, AGAIN = HEADER_FAULTS - 1 };
 
 void draw_edition(struct text *x)
 {
-    x->edition = percent(50) ? 2 : 1;
+    x->edition = 1 + (int)below(EDITIONS);
     x->fault = HEADER_FAULTS;
 }
 
@@ -60,16 +61,18 @@ void damage_header(struct text *x, size_t lines)
 
 void put_header(struct text *x)
 {
-    if (x->fault < HEADER_FAULTS)
-        put(x, faults[x->fault].bytes, strlen(faults[x->fault].bytes));
-    else if (x->edition == 2)
-        put(x, header, strlen(header));
+    if (x->fault == HEADER_FAULTS) {
+        put(x, ref_headers[x->edition], strlen(ref_headers[x->edition]));
+        return;
+    }
+    for (const char *byte = faults[x->fault].bytes; *byte != 0; byte++)
+        put(x, *byte == '2' && x->edition == EDITIONS ? "3" : byte, 1);
 }
 
 void put_header_again(struct text *x, size_t i)
 {
     if (x->fault == AGAIN && x->fault_line == i + 2)
-        put(x, header, strlen(header));
+        put(x, ref_headers[x->edition == EDITIONS ? EDITIONS : 2], HEADER);
 }
 
 size_t end_of_rows(const struct text *x, size_t start)
@@ -90,16 +93,43 @@ static uint8_t respell(uint8_t byte)
     }
 }
 
+// A table without loads and stores: they become steps of not.
+static void drop_memories(struct draft *d)
+{
+    for (uint32_t *w = d->words, *end = w + d->word_count; w < end; w += RECORD_WORDS)
+        if (ref_uses(w[0], 'n')) {
+            uint32_t row = w[0] == STORE ? w[5] : w[1], not[RECORD_WORDS] = {1, row, row, 0, 0, 0};
+            memcpy(w, not, sizeof not);
+        }
+}
+
+// The records of a table in an edition before 3.
+static void put_older_records(struct text *x, const struct draft *d)
+{
+    char line[64];
+    for (const uint32_t *w = d->words, *end = w + d->word_count; w < end; w += RECORD_WORDS) {
+        int n = sprintf(line, "op\t%s\t%u\t%u\t%u\t%u\n", kinds[w[0]].name, w[1], w[2], w[3], w[0] == ITE ? w[5] : w[4]);
+        put(x, line, (size_t)n);
+    }
+}
+
 void draw_text_of_table(struct text *x)
 {
     static struct draft d;
-    draw_table(&d);
-    struct ref_table t = slices(&d);
+    static struct text three;
     draw_edition(x);
+    draw_table(&d);
+    if (x->edition < EDITIONS)
+        drop_memories(&d);
+    struct ref_table t = slices(&d);
+    three.length = ref_write(&t, three.bytes, MAX_TEXT).result;
+    size_t end = x->edition == EDITIONS ? three.length : end_of_rows(&three, HEADER);
     x->length = 0;
     put_header(x);
     size_t start = x->length;
-    x->length += ref_write(&t, x->bytes + start, MAX_TEXT - start).result;
-    for (size_t i = start, end = end_of_rows(x, start); i < end && x->edition == 2; i++)
+    put(x, (const char *)three.bytes + HEADER, end - HEADER);
+    for (size_t i = start; i < x->length && x->edition == 2; i++)
         x->bytes[i] = respell(x->bytes[i]);
+    if (x->edition < EDITIONS)
+        put_older_records(x, &d);
 }

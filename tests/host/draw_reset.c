@@ -12,11 +12,16 @@ void set_unknown(struct draft *d, size_t row, uint32_t bit)
     d->value[row] &= ~((uint32_t)1 << bit);
 }
 
+size_t draw_written(const uint32_t *record)
+{
+    return record[0] == STORE ? record[5] + below(record[4]) : record[1];
+}
+
 // A bit of a row, which a record writes where there is one and written is 1.
 static void draw_bit(struct reset *q, int written)
 {
-    size_t records = q->d.word_count / 5;
-    q->row = written && records > 0 ? q->d.words[5 * below(records) + 1] : below(q->d.widths);
+    size_t records = q->d.word_count / RECORD_WORDS;
+    q->row = written && records > 0 ? draw_written(q->d.words + RECORD_WORDS * below(records)) : below(q->d.widths);
     q->bit = (uint32_t)below(q->d.width[q->row]);
 }
 
@@ -49,11 +54,11 @@ void draw_reset(struct reset *q)
             damage_table(&q->d, 1 + (unsigned)below(10));
 }
 
-// Whether the last record has two operands, of different rows.
+// Whether the last record has two operands, of different rows, or is a load.
 static int ends_with_two(const struct draft *d)
 {
-    const uint32_t *last = d->words + d->word_count - 5;
-    return kinds[last[0]].b == ROW && last[2] != last[3];
+    const uint32_t *last = d->words + d->word_count - RECORD_WORDS;
+    return last[0] == LOAD || (ref_uses(last[0], 'b') && last[2] != last[3]);
 }
 
 static size_t open_known_bits(const struct draft *d)
@@ -71,6 +76,6 @@ void draw_small_reset(struct reset *q, size_t most)
         size_t rows = 3 + below(5), records = 1 + below(4);
         draw_known_table(&q->d, rows, records, 1);
     } while (open_known_bits(&q->d) > most || !ends_with_two(&q->d));
-    q->row = q->d.words[q->d.word_count - 4];
+    q->row = draw_written(q->d.words + q->d.word_count - RECORD_WORDS);
     q->bit = (uint32_t)below(q->d.width[q->row]);
 }

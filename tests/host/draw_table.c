@@ -33,13 +33,14 @@ struct ref_table slices(struct draft *d)
                               d->widths, d->locks, d->masks, d->values, d->word_count};
 }
 
-// A few widths that go together, so that records of every kind find rows that fit.
+// A few widths that go together, so that records of every kind find rows that fit; in some tables many rows after one another have the
+// same, so that there are long spans.
 static void draw_widths(struct draft *d, unsigned (*width)(void))
 {
     unsigned a = width(), b = width(), sum = a + b <= 32 ? a + b : a, twice = a <= 16 ? 2 * a : a;
-    unsigned pool[] = {a, a, a, a, b, b, sum, sum, twice, twice, 1, width()};
+    unsigned pool[] = {a, a, a, a, b, b, sum, sum, twice, twice, 1, width()}, again = percent(60) ? 0 : percent(50) ? 80 : 98;
     for (size_t i = 0; i < d->widths; i++)
-        d->width[i] = (uint8_t)pool[below(12)];
+        d->width[i] = i > 0 && percent(again) ? d->width[i - 1] : (uint8_t)pool[below(12)];
 }
 
 static void draw_row(struct draft *d, size_t i, size_t style)
@@ -53,29 +54,29 @@ static void draw_row(struct draft *d, size_t i, size_t style)
 static int draw_words(struct draft *d, size_t r)
 {
     struct ref_table t = slices(d);
-    uint32_t *w = d->words + 5 * r;
-    for (int i = 1; i < 5; i++)
-        w[i] = (uint32_t)below(d->widths);
-    if (kinds[w[0]].b != ROW)
-        w[3] = 0;
-    else if (percent(5))
+    uint32_t *w = d->words + RECORD_WORDS * r;
+    for (size_t i = 1; i < RECORD_WORDS; i++)
+        w[i] = ref_uses(w[0], ref_row_letter(i)) ? (uint32_t)below(d->widths) : 0;
+    if (ref_uses(w[0], 'b') && percent(5))
         w[3] = w[2];
-    if (kinds[w[0]].p != ROW)
-        w[4] = kinds[w[0]].p == NUMBER ? (uint32_t)below(percent(50) ? 32 : 4) : 0;
+    if (ref_uses(w[0], 'p'))
+        w[4] = (uint32_t)below(percent(50) ? 32 : 4);
+    if (ref_uses(w[0], 'n'))
+        w[4] = 1 + (uint32_t)below(percent(70) ? 4 : d->widths - w[5]);
     return ref_record(&t, r, 1) == 0;
 }
 
 // Record r: of a random kind for which rows are found that fit, else not.
 static void draw_record(struct draft *d, size_t r)
 {
-    uint32_t *w = d->words + 5 * r;
+    uint32_t *w = d->words + RECORD_WORDS * r;
     for (int tries = 0; tries < 240; tries++) {
         if (tries % 40 == 0)
             w[0] = (uint32_t)below(KINDS);
         if (draw_words(d, r))
             return;
     }
-    uint32_t open = (uint32_t)below(d->widths), not[] = {1, open, open, 0, 0};
+    uint32_t open = (uint32_t)below(d->widths), not[RECORD_WORDS] = {1, open, open, 0, 0, 0};
     d->lock[open] = 0;
     memcpy(w, not, sizeof not);
 }
@@ -88,9 +89,9 @@ static void settle(struct draft *d, unsigned limit)
     struct ref_table t = slices(&work);
     for (size_t r = d->first; r < d->last; r++)
         if (!ref_step(&t, r, limit)) {
-            uint32_t target = d->words[5 * r + 1], not[] = {1, target, target, 0, 0};
-            memcpy(d->words + 5 * r, not, sizeof not);
-            memcpy(work.words + 5 * r, not, sizeof not);
+            uint32_t target = d->words[RECORD_WORDS * r + 1], not[RECORD_WORDS] = {1, target, target, 0, 0, 0};
+            memcpy(d->words + RECORD_WORDS * r, not, sizeof not);
+            memcpy(work.words + RECORD_WORDS * r, not, sizeof not);
             ref_step(&t, r, limit);
         }
 }
@@ -99,13 +100,14 @@ static void settle(struct draft *d, unsigned limit)
 static void fill(struct draft *d, size_t rows, size_t records, unsigned (*width)(void), size_t style)
 {
     d->widths = d->locks = d->masks = d->values = rows;
-    d->word_count = 5 * records;
+    d->word_count = RECORD_WORDS * records;
     d->first = 0;
     d->last = records;
     draw_widths(d, width);
+    unsigned locked = percent(30) ? 0 : 15;
     for (size_t i = 0; i < rows; i++) {
         draw_row(d, i, style);
-        d->lock[i] = percent(15);
+        d->lock[i] = percent(locked);
     }
     for (size_t r = 0; r < records; r++)
         draw_record(d, r);

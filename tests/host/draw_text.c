@@ -56,19 +56,30 @@ void draw_text(struct text *x)
         damage_bytes(x);
 }
 
-// A record line of n bytes, 14 to 27.
-static void put_record_of(struct text *x, size_t n)
+// The fewest and the most bytes that put_record_of can give a record line of so many numbers.
+static size_t least_bytes(size_t numbers)
 {
-    static const char *const numbers[] = {"7", "42", "999"};
-    const char *name = n < 23 ? "or" : "extract";
-    size_t more = n - 12 - strlen(name);
+    return strlen("op\tor\n") + 2 * numbers;
+}
+
+static size_t most_bytes(size_t numbers)
+{
+    return strlen("op\textract\n") + 4 * numbers;
+}
+
+// A record line of so many numbers and n bytes.
+static void put_record_of(struct text *x, size_t numbers, size_t n)
+{
+    static const char *const digits[] = {"7", "42", "999"};
+    const char *name = n <= least_bytes(numbers) + 2 * numbers ? "or" : "extract";
+    size_t more = n - strlen("op\t\n") - strlen(name) - 2 * numbers;
     put(x, "op\t", 3);
     put(x, name, strlen(name));
-    for (int i = 0; i < 4; i++) {
-        size_t digits = more > 2 ? 2 : more;
-        more -= digits;
+    for (size_t i = 0; i < numbers; i++) {
+        size_t here = more > 2 ? 2 : more;
+        more -= here;
         put(x, "\t", 1);
-        put(x, numbers[digits], digits + 1);
+        put(x, digits[here], here + 1);
     }
     put(x, "\n", 1);
 }
@@ -77,8 +88,9 @@ void draw_text_of(struct text *x, size_t length)
 {
     draw_edition(x);
     put_lines(x, 1 + below(20), 0, SIZE_MAX);
+    size_t numbers = x->edition == EDITIONS ? 5 : 4, least = least_bytes(numbers), most = most_bytes(numbers);
     for (; x->length < length; x->records++) {
         size_t left = length - x->length;
-        put_record_of(x, left < 28 ? left : left < 55 ? left / 2 : 14 + below(14));
+        put_record_of(x, numbers, left <= most ? left : left <= 2 * most ? left / 2 : least + below(most - least + 1));
     }
 }

@@ -41,19 +41,25 @@ struct ref_numbers {
     uint32_t refusal, first, second, third, fourth;
 };
 
-enum { KINDS = 24, ADD = 13, SUB = 14, MUL = 16, ITE = 20, UMULW = 21, SMULW = 22, SUMULW = 23 };
+enum { KINDS = 26, ADD = 13, SUB = 14, MUL = 16, ITE = 20, UMULW = 21, SMULW = 22, SUMULW = 23, LOAD = 24, STORE = 25 };
 
-// What a word of a record means for its kind.
-enum use { NOTHING, ROW, NUMBER };
+// A record's words: kind, t, a, b, p, c.
+enum { RECORD_WORDS = 6, EDITIONS = 3 };
 
+// The words that a kind uses, by a letter each: t, a, b and c are rows, p is a number, and n instead of p says how many cells there are.
 struct kind {
-    const char *name;
-    enum use a, b, p;
+    const char *name, *words;
 };
 
 extern const struct kind kinds[KINDS];
 
-// A record's operation on plain numbers: widths of target and operands, parameter, and the operands a, b and the row of p.
+// Whether a kind uses the word of that letter.
+int ref_uses(uint32_t kind, char word);
+
+// The letter of word i, 1 to 5, where it is a row.
+char ref_row_letter(size_t i);
+
+// A record's operation on plain numbers: widths of target and operands, parameter, and the operands a, b and c. No load or store.
 // one_number: a and b are one row, which gives one number for both; not so for a product.
 struct ref_op {
     uint32_t kind, p;
@@ -95,6 +101,9 @@ int ref_named_twice(const uint32_t *record);
 // One record's step. 0 where 2^limit choices do not settle a bit: the rows are then as they were.
 int ref_step(struct ref_table *t, size_t r, unsigned limit);
 
+// The same of a load or a store. Worked out cell by cell, and address by address too where at most 2^limit are covered.
+void ref_memory_step(struct ref_table *t, const uint32_t *record, unsigned limit);
+
 // exact becomes 0 where 2^limit choices do not settle a bit of a step: the answer then says nothing.
 struct ref_answer ref_run(struct ref_table *t, size_t first, size_t last, unsigned limit, int *exact);
 struct ref_answer ref_count(const struct ref_table *t, size_t row);
@@ -107,8 +116,10 @@ unsigned ref_conclusion(const struct ref_table *t, size_t row, uint32_t bit, uns
 // exact as of ref_run, for every run that is tried: where it becomes 0 the answer and the rows say nothing.
 struct ref_answer ref_reset_bits(struct ref_table *t, size_t row, uint32_t bit, unsigned limit, int *exact);
 
-// Whether a text begins with the header of edition 2.
-int ref_headed(const uint8_t *text, size_t length);
+// The edition of a text, by its header: 2 or 3, and 1 without one. The header of edition 2 or 3, of HEADER bytes.
+enum { HEADER = 10 };
+int ref_edition(const uint8_t *text, size_t length);
+extern const char *const ref_headers[EDITIONS + 1];
 
 struct ref_answer ref_read(const uint8_t *text, size_t length, struct ref_table *t);
 struct ref_answer ref_field(const uint8_t *text, size_t length, size_t line, size_t field);

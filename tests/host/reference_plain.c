@@ -24,7 +24,7 @@ static uint64_t wide_product(const struct ref_op *o, uint64_t a, uint64_t b)
     return (uint64_t)(x * y) % ((uint64_t)1 << o->wt);
 }
 
-// The new number, as the paper's list of plain runs gives it; its list ends with kind 20.
+// The new number, as the paper's list of plain runs gives it, which ends with kind 20, and of the wide products.
 uint64_t ref_plain(const struct ref_op *o, uint64_t a, uint64_t b, uint64_t c)
 {
     unsigned w = o->w[0], p = o->p;

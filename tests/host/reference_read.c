@@ -1,11 +1,10 @@
-// The text of a table, of either edition: read, line by line.
+// The text of a table, of every edition: read, line by line.
 #include "reference.h"
 #include <string.h>
 
-// The first line of a text of edition 2. A text without it is of edition 1.
-static const char header[] = "edition\t2\n";
+const char *const ref_headers[EDITIONS + 1] = {"", "", "edition\t2\n", "edition\t3\n"};
 
-// The letters of edition 2 and, under each, the one of 0, 1, X that it stands for. Edition 1 has the first three.
+// The letters of edition 2 and, under each, the one of 0, 1, X that it stands for. The other editions have the first three.
 static const char nine[] = "01XLHUZW-";
 static const char three[] = "01X01XXXX";
 
@@ -20,11 +19,12 @@ static int is_word(struct part f, const char *word)
     return f.length == strlen(word) && memcmp(f.at, word, f.length) == 0;
 }
 
-// The fields of a line, at most seven of them: a line with more has no place in the grammar.
-static size_t cut(struct part line, struct part fields[7])
+// The fields of a line, at most MOST_FIELDS of them: a line with so many has no place in the grammar.
+enum { MOST_FIELDS = 8 };
+static size_t cut(struct part line, struct part fields[MOST_FIELDS])
 {
     size_t n = 0, start = 0;
-    for (size_t i = 0; i <= line.length && n < 7; i++)
+    for (size_t i = 0; i <= line.length && n < MOST_FIELDS; i++)
         if (i == line.length || line.at[i] == '\t') {
             fields[n++] = (struct part){line.at + start, i - start};
             start = i + 1;
@@ -75,37 +75,48 @@ static int row_line(int edition, const struct part *f, size_t n, struct row *row
     return 1;
 }
 
-static int record_line(const struct part *f, size_t n, uint32_t words[5])
+// Before edition 3 there are four numbers and no load or store, and the last number of an ite is its condition.
+static int record_line(int edition, const struct part *f, size_t n, uint32_t words[RECORD_WORDS])
 {
-    if (n != 6 || !is_word(f[0], "op"))
+    uint32_t end = edition == EDITIONS ? KINDS : LOAD;
+    size_t numbers = edition == EDITIONS ? 5 : 4;
+    if (n != 2 + numbers || !is_word(f[0], "op"))
         return 0;
-    words[0] = KINDS;
-    for (uint32_t k = 0; k < KINDS; k++)
+    words[0] = end;
+    for (uint32_t k = 0; k < end; k++)
         if (is_word(f[1], kinds[k].name))
             words[0] = k;
-    for (int i = 1; i < 5; i++) {
+    words[5] = 0;
+    for (size_t i = 1; i <= numbers; i++) {
         if (number(f[1 + i]) < 0)
             return 0;
         words[i] = (uint32_t)number(f[1 + i]);
     }
-    return words[0] != KINDS;
+    if (edition < EDITIONS && words[0] == ITE) {
+        words[5] = words[4];
+        words[4] = 0;
+    }
+    return words[0] != end;
 }
 
-int ref_headed(const uint8_t *text, size_t length)
+int ref_edition(const uint8_t *text, size_t length)
 {
-    return length >= strlen(header) && memcmp(text, header, strlen(header)) == 0;
+    for (int e = 2; e <= EDITIONS; e++)
+        if (length >= HEADER && memcmp(text, ref_headers[e], HEADER) == 0)
+            return e;
+    return 1;
 }
 
 // Goes over the lines after the header, counts rows and records and, where fill is 1, puts them into t. The first bad line, or 0; the
 // text's first line, also where it is the header, is line 1.
 static size_t lines(struct part text, struct ref_table *t, int fill, size_t *rows, size_t *records)
 {
-    int edition = ref_headed(text.at, text.length) ? 2 : 1;
-    size_t start = edition == 2 ? strlen(header) : 0, line = edition == 2 ? 2 : 1;
+    int edition = ref_edition(text.at, text.length);
+    size_t start = strlen(ref_headers[edition]), line = edition == 1 ? 1 : 2;
     for (*rows = *records = 0; start < text.length; line++) {
-        struct part fields[7];
+        struct part fields[MOST_FIELDS];
         struct row row;
-        uint32_t words[5];
+        uint32_t words[RECORD_WORDS];
         const uint8_t *end = memchr(text.at + start, '\n', text.length - start);
         if (end == NULL)
             return line;
@@ -119,9 +130,9 @@ static size_t lines(struct part text, struct ref_table *t, int fill, size_t *row
                 t->value[*rows] = row.value;
             }
             ++*rows;
-        } else if (record_line(fields, n, words)) {
+        } else if (record_line(edition, fields, n, words)) {
             if (fill)
-                memcpy(t->words + 5 * *records, words, sizeof words);
+                memcpy(t->words + RECORD_WORDS * *records, words, sizeof words);
             ++*records;
         } else
             return line;
@@ -141,7 +152,7 @@ struct ref_answer ref_read(const uint8_t *text, size_t length, struct ref_table 
     size_t bad = lines(whole, t, 0, &rows, &records);
     if (bad != 0)
         return ref_refusal(12, bad);
-    if (rows > t->widths || 5 * records > t->word_count)
+    if (rows > t->widths || RECORD_WORDS * records > t->word_count)
         return ref_refusal(13, 0);
     lines(whole, t, 1, &rows, &records);
     return ref_result(rows, records);

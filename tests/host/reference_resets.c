@@ -10,14 +10,14 @@ unsigned ref_conclusion(const struct ref_table *t, size_t row, uint32_t bit, uns
     struct ref_table copy = *t;
     copy.mask = memcpy(mask, t->mask, 4 * t->masks);
     copy.value = memcpy(value, t->value, 4 * t->values);
-    ref_run(&copy, 0, t->word_count / 5, limit, exact);
+    ref_run(&copy, 0, t->word_count / RECORD_WORDS, limit, exact);
     return ref_bit(mask[row], bit) ? UNKNOWN : (unsigned)ref_bit(value[row], bit);
 }
 
 // Refusals 1 to 10 of all records, 7 of the row and 15.
 static struct ref_answer check(const struct ref_table *t, size_t row, uint32_t bit)
 {
-    struct ref_answer a = ref_check(t, 1, 0, t->word_count / 5);
+    struct ref_answer a = ref_check(t, 1, 0, t->word_count / RECORD_WORDS);
     if (a.refusal != 0)
         return a;
     if (row >= t->widths)

@@ -3,7 +3,7 @@
 
 int ref_named_twice(const uint32_t *record)
 {
-    return kinds[record[0]].b == ROW && record[2] == record[3];
+    return ref_uses(record[0], 'b') && record[2] == record[3];
 }
 
 // The operands of a product stay independent, also where they are one row.
@@ -14,15 +14,19 @@ static int independent(uint32_t kind)
 
 int ref_step(struct ref_table *t, size_t r, unsigned limit)
 {
-    const uint32_t *w = t->words + 5 * r;
-    struct kind kind = kinds[w[0]];
-    struct ref_op o = {w[0], kind.p == NUMBER ? w[4] : 0, t->width[w[1]], {0, 0, 0}, ref_named_twice(w) && !independent(w[0])};
+    static const size_t operands[3] = {2, 3, 5};
+    const uint32_t *w = t->words + RECORD_WORDS * r;
+    if (ref_uses(w[0], 'n')) {
+        ref_memory_step(t, w, limit);
+        return 1;
+    }
+    struct ref_op o = {w[0], w[4], t->width[w[1]], {0, 0, 0}, ref_named_twice(w) && !independent(w[0])};
     struct ref_vector v[3] = {{0, 0}, {0, 0}, {0, 0}}, result = {0, 0};
-    enum use uses[3] = {kind.a, kind.b, kind.p};
     for (int j = 0; j < 3; j++)
-        if (uses[j] == ROW) {
-            o.w[j] = t->width[w[2 + j]];
-            v[j] = (struct ref_vector){t->mask[w[2 + j]], t->value[w[2 + j]]};
+        if (ref_uses(w[0], "abc"[j])) {
+            uint32_t row = w[operands[j]];
+            o.w[j] = t->width[row];
+            v[j] = (struct ref_vector){t->mask[row], t->value[row]};
         }
     for (unsigned k = 0; k < o.wt; k++) {
         int seen = ref_values(&o, v, k, limit);

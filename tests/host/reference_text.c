@@ -3,22 +3,22 @@
 #include <stdio.h>
 #include <string.h>
 
-// The text of the table that was checked last, with room for 44 bytes a row and 24 a record, and a NUL.
-static char printed[44 * 256 + 24 * 1024 + 1];
+// The text of the table that was checked last, with room for its header, 44 bytes a row and 27 a record, and a NUL.
+static char printed[HEADER + 44 * 256 + 27 * 1024 + 1];
 
 // Prints the text, and answers its length.
 static size_t print_table(const struct ref_table *t)
 {
-    char *at = printed;
+    char *at = printed + sprintf(printed, "%s", ref_headers[EDITIONS]);
     for (size_t i = 0; i < t->widths; i++) {
         at += sprintf(at, "row\t%s\t", t->lock[i] == 1 ? "locked" : "open");
         for (unsigned k = t->width[i]; k-- > 0;)
             *at++ = t->mask[i] >> k & 1 ? 'X' : t->value[i] >> k & 1 ? '1' : '0';
         *at++ = '\n';
     }
-    for (size_t r = 0; r < t->word_count / 5; r++) {
-        const uint32_t *w = t->words + 5 * r;
-        at += sprintf(at, "op\t%s\t%u\t%u\t%u\t%u\n", kinds[w[0]].name, w[1], w[2], w[3], w[4]);
+    for (size_t r = 0; r < t->word_count / RECORD_WORDS; r++) {
+        const uint32_t *w = t->words + RECORD_WORDS * r;
+        at += sprintf(at, "op\t%s\t%u\t%u\t%u\t%u\t%u\n", kinds[w[0]].name, w[1], w[2], w[3], w[4], w[5]);
     }
     return (size_t)(at - printed);
 }

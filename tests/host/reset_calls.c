@@ -4,7 +4,7 @@
 
 // Of two faults at once the first is one of the table, 1 to 10, or of the row named, or of the bit's number; the second is of the row, of
 // the bit's number, or that the bit ends X.
-enum { OF_TABLE = 10, OF_ROW = 0, OF_BIT, ENDS_X, SECONDS, ROWS = 4, TABLES = 6 };
+enum { OF_TABLE = 10, OF_ROW = 0, OF_BIT, ENDS_X, SECONDS, ROWS = 4, TABLES = 8 };
 
 static unsigned conclusions[2], rows[ROWS], tables[TABLES], table_faults[SECONDS][OF_TABLE], row_faults[SECONDS], bit_faults[SECONDS];
 
@@ -23,10 +23,18 @@ void judge_reset(struct reset *q, const struct draft *left, struct ref_answer ri
     compare(RESET_BITS, library_reset_bits(&t, q->row, q->bit), right);
 }
 
+static int has_kind(const struct draft *d, uint32_t kind)
+{
+    for (const uint32_t *w = d->words, *end = w + d->word_count; w < end; w += RECORD_WORDS)
+        if (w[0] == kind)
+            return 1;
+    return 0;
+}
+
 static int is_written(const struct draft *d, size_t row)
 {
-    for (size_t r = 0; r < d->word_count; r += 5)
-        if (d->words[r + 1] == row)
+    for (const uint32_t *w = d->words, *end = w + d->word_count; w < end; w += RECORD_WORDS)
+        if (w[0] == STORE ? w[5] <= row && row < w[5] + w[4] : w[1] == row)
             return 1;
     return 0;
 }
@@ -53,7 +61,9 @@ static void count_rows(const struct reset *q, const struct draft *left)
     tables[1] += q->d.lock[q->row] == 1;
     tables[2] += q->d.word_count == 0;
     tables[3] += dropped && !kept;
-    tables[4] += q->d.widths == 256 && q->d.word_count == 5 * 1024;
+    tables[4] += q->d.widths == 256 && q->d.word_count == RECORD_WORDS * 1024;
+    tables[6] += (unsigned)has_kind(&q->d, LOAD);
+    tables[7] += (unsigned)has_kind(&q->d, STORE);
 }
 
 // Whether a run of all records changes the rows.
@@ -63,7 +73,7 @@ static int run_changes(const struct reset *q)
     int exact;
     work = q->d;
     struct ref_table t = slices(&work);
-    ref_run(&t, 0, work.word_count / 5, LIMIT, &exact);
+    ref_run(&t, 0, work.word_count / RECORD_WORDS, LIMIT, &exact);
     return memcmp(work.mask, q->d.mask, 4 * work.masks) != 0 || memcmp(work.value, q->d.value, 4 * work.values) != 0;
 }
 
@@ -85,7 +95,7 @@ static void mend_table(struct draft *d, struct ref_answer refused)
 static uint32_t table_refusal(struct reset *q)
 {
     struct ref_table t = slices(&q->d);
-    return ref_check(&t, 1, 0, t.word_count / 5).refusal;
+    return ref_check(&t, 1, 0, t.word_count / RECORD_WORDS).refusal;
 }
 
 // Mends what was refused. A row or a bit that is too great becomes what a careless cast or shift makes of it, where that is right.
@@ -143,7 +153,7 @@ int report_resets(void)
     int missing = report_counts("reset_bits, conclusions", "01", conclusions, 2);
     missing += report_counts("reset_bits, rows that a record writes with a bit made X, with one kept; the row named so", NULL, rows, ROWS);
     missing += report_counts("reset_bits with known bits in locked rows, of a locked row, without records, where no bit is kept, of 256 rows "
-                             "and 1,024 records; refused as 19 where a run changes rows", NULL, tables, TABLES);
+                             "and 1,024 records; refused as 19 where a run changes rows; with loads, with stores", NULL, tables, TABLES);
     missing += report_counts("reset_bits with two faults, 1 to 10 and 7 of the row", NULL, table_faults[OF_ROW], OF_TABLE);
     missing += report_counts("reset_bits with two faults, 1 to 10 and 15", NULL, table_faults[OF_BIT], OF_TABLE);
     missing += report_counts("reset_bits with two faults, 1 to 10 and 19", NULL, table_faults[ENDS_X], OF_TABLE);

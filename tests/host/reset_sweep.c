@@ -3,7 +3,7 @@
 #include <stdio.h>
 #include <stdlib.h>
 
-enum { SWEPT = 20000, MOST = 10, COUNTS = 5 };
+enum { SWEPT = 20000, MOST = 10, COUNTS = 7 };
 
 static unsigned counts[COUNTS];
 
@@ -117,7 +117,10 @@ static void sweep_table(struct reset *q, const struct draft *left, size_t value)
             exit(1);
         }
     count_sets(made);
+    uint32_t last = q->d.words[q->d.word_count - RECORD_WORDS];
     counts[4] += (unsigned)could_drop_locked(q, left, value);
+    counts[5] += last == LOAD;
+    counts[6] += last == STORE;
 }
 
 void sweep_resets(void)
@@ -137,5 +140,6 @@ void sweep_resets(void)
 int report_reset_sweep(void)
 {
     return report_counts("small tables of reset_bits with every set of start bits; where a bit is kept that could be X alone; where the "
-                         "opposite order leaves others; where fewer could be left; where a locked bit could be X too", NULL, counts, COUNTS);
+                         "opposite order leaves others; where fewer could be left; where a locked bit could be X too; whose last record loads, stores",
+                         NULL, counts, COUNTS);
 }

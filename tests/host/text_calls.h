@@ -8,12 +8,13 @@
 void call_read(void);
 void call_field(void);
 
-// A text that the library reads, and whose table it then writes, must come back as those bytes, and a listing as its meaning in three
-// letters. The text of a table that passes the checks must come back.
+// A text of edition 3 that the library reads, and whose table it then writes, must come back as those bytes, and an older one as its form
+// in edition 3. The text of a table that passes the checks must come back.
 void call_trip(void);
 
-// How often each letter of a listing was read, a header alone was, each fault of a header was refused, and each edition came back, and
-// how many of these never.
+// How often each letter of a listing was read, a header alone was, and each fault of a header and each line of another edition was
+// refused; and, which report_texts prints too, each edition came back; and how many of these never.
 int report_texts(void);
+int report_trips(void);
 
 #endif

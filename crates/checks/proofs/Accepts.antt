@@ -4,16 +4,19 @@ use mathlib.Core.List.{List, _++_}
 use Prim.Native.Nat.{ℕ, _%_, _<_}
 use lib.Dec.{T-not, not-T, eqb, nltb→le, eqb→eq}
 use lib.Arith.{le→nltb}
-use lib.ListN.{length}
+use lib.ListN.{length, getD}
 use Rattle.bits.proofs.Bools.{eq→eqb, T-not-not, not-not-T}
+use Rattle.vectors.proofs.Lists.{all-imp, none-all, all-none}
 use Rattle.operations.specs.Limits.{recordWords}
-use Rattle.operations.specs.Record.{targetLocked, recordFaults, lockFault}
+use Rattle.operations.specs.Record.{targetRows}
+use Rattle.operations.specs.Faults.{recordFaults, lockFault}
 use Rattle.checks.specs.Check.{done, Check, placed, verdict, Passed}
 use Rattle.checks.specs.Table.{Table, recordCount, recordOf}
 use Rattle.checks.specs.Checks.{rowShapeFaults, wordFaults, stretchFaults, rowFaultsAt, rowChecks, recordChecks, openChecks, runChecks, sizeChecks}
 use Rattle.checks.specs.Accepted.{RecordPassed, TablePassed, Accepted}
 use Rattle.checks.proofs.Verdicts.{passed-append, passed-left, passed-right, rising-intro, rising-elim, done-of-passed, passed-of-done}
-use Rattle.checks.proofs.RowChecks.{row-of-passed, passed-of-row, record-of-passed, passed-of-record, positive, not-zero}
+use Rattle.checks.proofs.RowChecks.{row-of-passed, passed-of-row, positive, not-zero}
+use Rattle.checks.proofs.RecordChecks.{record-of-passed, passed-of-record}
 
 -- ---- the lists, part by part
 
@@ -122,8 +125,9 @@ module _ (t : Table) (first last : ℕ) where
             (λ i h. record-of-passed (t .widths) (recordOf t i) i (passed-left (closed t i) (opened t i) (each i h)));
         ordered = nltb→le _ _ (S .0);
         within = nltb→le _ _ (S .1 .0);
-        open-target = λ i h e.
-            T-not (targetLocked (t .locks) (recordOf t i)) (passed-right (closed t i) (opened t i) (each i h) .0) (eq→eqb e);
+        open-targets = λ i h.
+            all-imp (λ j z e. T-not (eqb (getD (t .locks) j 0) 1) z (eq→eqb e)) (targetRows (recordOf t i))
+            (none-all (λ j. eqb (getD (t .locks) j 0) 1) (targetRows (recordOf t i)) (passed-right (closed t i) (opened t i) (each i h) .0));
       }
 
   pub passed-of-accepted : Accepted t first last → Passed (runChecks t first last)
@@ -135,8 +139,11 @@ module _ (t : Table) (first last : ℕ) where
       (passed-append (rowChecks t) (openChecks t) (rows-passed t (A .table))
       (rising-intro (λ i. closed t i ++ opened t i) (recordCount t)
       (λ i h. passed-append (closed t i) (opened t i)
-      (passed-of-record (t .widths) (recordOf t i) i (A .table .record-passed i h))
-      (not-T (targetLocked (t .locks) (recordOf t i)) (λ q. A .open-target i h (eqb→eq _ _ q)), tt))))))
+      (passed-of-record (t .widths) (recordOf t i) i (A .table .record-passed i h)) (
+        all-none (λ j. eqb (getD (t .locks) j 0) 1) (targetRows (recordOf t i))
+            (all-imp (λ j d. not-T (eqb (getD (t .locks) j 0) 1) (λ q. d (eqb→eq _ _ q))) (targetRows (recordOf t i)) (A .open-targets i h)),
+        tt,
+      ))))))
 
   pub accepted-of-answer : {A : Type 0} (a b : A) → verdict (runChecks t first last) a ≡ done b → Accepted t first last
   accepted-of-answer a b e = accepted-of-passed (passed-of-done (runChecks t first last) a b e)

@@ -2,8 +2,10 @@
 pub mod Verdicts
 pub mod Numbered
 pub mod RowChecks
+pub mod RecordChecks
 pub mod Accepts
 pub mod Rules
 pub mod VerdictParts
 pub mod Naming
 pub mod Recording
+pub mod Memory

@@ -3,10 +3,7 @@ use mathlib.Core.Path.{_≡_, refl}
 use mathlib.Core.Bool.{Bool, true, false, not}
 use mathlib.Core.List.{List, [], _∷_}
 use Prim.Native.Nat.{ℕ}
-use borrow.Author.Tests.{eq-eqb, ne-eqb}
-use lib.ListN.{getD}
-use Rattle.operations.specs.declared.Record.{Record}
-use Rattle.operations.specs.Record.{wordsOf, fault, lockFault}
+use Rattle.operations.specs.Faults.{fault, targetLocked, lockFault}
 use Rattle.checks.specs.Check.{done, refused, verdict, placed}
 use Rattle.checks.specs.Model.{judged}
 use Rattle.checks.specs.Encoding.{lockWith}
@@ -23,14 +20,15 @@ fits-refused b i e = simp e
 
 -- ---- check 10
 
-pub lock-refused : (b : Bool) (locks : List ℕ) (r : Record) (i : ℕ) → b ≡ true → getD locks (r .t) 0 ≡ 1 → judged (lockWith b locks (wordsOf r) i) ≡ refused 10 i
-unfolding verdict lockFault
-lock-refused b locks r i e h = rw e (simp (eq-eqb (getD locks (r .t) 0) 1 h))
+module _ (b : Bool) (locks words : List ℕ) (i : ℕ) where
+  pub lock-refused : b ≡ true → targetLocked locks words ≡ true → judged (lockWith b locks words i) ≡ refused 10 i
+  unfolding verdict lockFault
+  lock-refused e h = rw e (simp h)
 
-pub lock-open : (b : Bool) (locks : List ℕ) (r : Record) (i : ℕ) → b ≡ true → (getD locks (r .t) 0 ≡ 1 → ⊥) → judged (lockWith b locks (wordsOf r) i) ≡ done tt
-unfolding verdict lockFault
-lock-open b locks r i e h = rw e (simp (ne-eqb (getD locks (r .t) 0) 1 h))
+  pub lock-open : b ≡ true → targetLocked locks words ≡ false → judged (lockWith b locks words i) ≡ done tt
+  unfolding verdict lockFault
+  lock-open e h = rw e (simp h)
 
-pub lock-unasked : (b : Bool) (locks : List ℕ) (r : Record) (i : ℕ) → b ≡ false → judged (lockWith b locks (wordsOf r) i) ≡ done tt
-unfolding verdict
-lock-unasked b locks r i e = rw e refl
+  pub lock-unasked : b ≡ false → judged (lockWith b locks words i) ≡ done tt
+  unfolding verdict
+  lock-unasked e = rw e refl

@@ -13,7 +13,8 @@ use Rattle.vectors.specs.Lists.{All}
 use Rattle.vectors.specs.Row.{WellFormed}
 use Rattle.operations.specs.Limits.{recordWords}
 use Rattle.operations.specs.Kinds.{isKind}
-use Rattle.operations.specs.Record.{kindWord, targetWord, firstWord, secondWord, parameterWord, kindIn, widthAt, rowsNamed, misused, widthsFit}
+use Rattle.operations.specs.Record.{kindWord, targetWord, firstWord, secondWord, parameterWord, sixthWord, kindIn, widthAt, rowsNamed, targetRows}
+use Rattle.operations.specs.Faults.{misused, widthsFit}
 use Rattle.bits.specs.Limits.{widthLimit}
 use Rattle.checks.specs.Limits.{rowLimit, recordLimit}
 use Rattle.checks.specs.Table.{rowAt, Table, startOf, recordCount, recordOf}
@@ -26,11 +27,13 @@ pub record RowPassed (t : Table) (i : ℕ) : Type 0 where
 
 pub record RecordPassed (widths words : List ℕ) : Type 0 where
   pub kind-known : T (isKind (kindWord words))
-  pub target-in : targetWord words < length widths
+  pub targets-in : All (λ i. i < length widths) (targetRows words)
   pub operands-in : All (λ i. i < length widths) (rowsNamed words)
+  pub target-used : T (not (misused (kindIn words .use-t) (targetWord words)))
   pub first-used : T (not (misused (kindIn words .use-a) (firstWord words)))
   pub second-used : T (not (misused (kindIn words .use-b) (secondWord words)))
   pub parameter-used : T (not (misused (kindIn words .use-p) (parameterWord words)))
+  pub sixth-used : T (not (misused (kindIn words .use-c) (sixthWord words)))
   pub widths-fit : T (widthsFit widths words)
 
 pub record TablePassed (t : Table) : Type 0 where
@@ -48,4 +51,4 @@ pub record Accepted (t : Table) (first last : ℕ) : Type 0 where
   pub table : TablePassed t
   pub ordered : first ≤ last
   pub within : last ≤ recordCount t
-  pub open-target : (i : ℕ) → i < recordCount t → getD (t .locks) (targetWord (recordOf t i)) 0 ≢ 1
+  pub open-targets : (i : ℕ) → i < recordCount t → All (λ j. getD (t .locks) j 0 ≢ 1) (targetRows (recordOf t i))

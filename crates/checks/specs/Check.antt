@@ -9,7 +9,7 @@ use mathlib.Core.List.{List, [], _∷_, map}
 use Prim.Native.Nat.{ℕ}
 use lib.Dec.{T}
 use Rattle.vectors.specs.Lists.{All}
-use Rattle.operations.specs.Record.{Fault}
+use Rattle.operations.specs.Faults.{Fault}
 
 pub data Answer (A : Type 0) : Type 0 where
   done : A → Answer A

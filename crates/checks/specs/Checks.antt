@@ -17,7 +17,8 @@ use lib.Dec.{leb, ltb, eqb}
 use lib.ListN.{length, getD}
 use lib.Bits.{bitAnd}
 use Rattle.operations.specs.Limits.{recordWords}
-use Rattle.operations.specs.Record.{Fault, fault, widthAt, recordFaults, lockFault}
+use Rattle.operations.specs.Record.{widthAt}
+use Rattle.operations.specs.Faults.{Fault, fault, recordFaults, lockFault}
 use Rattle.bits.specs.Counted.{rising}
 use Rattle.bits.specs.Limits.{widthLimit}
 use Rattle.checks.specs.Limits.{rowLimit, recordLimit}
@@ -43,7 +44,7 @@ masksDiffer t = not (eqb (length (t .masks)) (length (t .widths)))
 abbrev pub valuesDiffer : Table → Bool
 valuesDiffer t = not (eqb (length (t .values)) (length (t .widths)))
 
--- ---- 3: record words not a multiple of five, over 1,024 records, first after last, or last past the end
+-- ---- 3: record words not a multiple of six (02, request 11: "Refusal 3 counts sixes"), over 1,024 records, first after last, or last past the end
 
 abbrev pub wordsLeftOver : Table → Bool
 wordsLeftOver t = not (eqb (length (t .words) % recordWords) 0)

@@ -1,23 +1,28 @@
 -- How the code's tables write what a kind's description says. Cited by contracts of inner functions alone: no public contract rests on it.
 --   byteLimit    the greatest number of a byte
---   limitOf n u  the number that a word must be below;   Reads r n b p   the rows that a rule asks for are there
+--   limitOf n u  the number that a word must be below, where it has nothing to do with cells;   Reads r n b c   the rows that a rule asks for are there
+--   spanFaults   checks 7 and 8 of a load and of a store, those that can fail
 --   WordsPassed n words       a record passed checks 6 to 8, in a table of n rows
+--   TargetsIn n r             the rows that a record writes are in a table of n rows
 --   lockWith, recordWith, recordsWith   checks 6 to 9, and 10 where it is asked for: of a lock, a record, all records
 --   headChecks, bodyChecks   checks 1 to 3 without a stretch; the rows' and the records' checks
 --   RowSlices    the four row slices have one length (check 2 passed)
-use mathlib.Core.Bool.{Bool, true, false}
-use mathlib.Core.List.{List, [], _++_}
-use Prim.Native.Nat.{ℕ, suc, _≤_, _<_}
+use mathlib.Core.Bool.{Bool, true, false, not}
+use mathlib.Core.List.{List, [], _∷_, _++_}
+use Prim.Native.Nat.{ℕ, suc, _+_, _≤_, _<_}
+use lib.Dec.{T, leb, ltb, eqb}
 use mathlib.Core.Path.{_≡_}
 use lib.ListN.{length}
-use Rattle.operations.specs.Record.{namedFaults, recordFaults, lockFault}
+use Rattle.operations.specs.Faults.{Fault, fault, namedFaults, recordFaults, lockFault}
 use Rattle.checks.specs.Limits.{rowLimit}
 use Rattle.bits.specs.Counted.{rising}
 use Rattle.checks.specs.Check.{Check, placed, Passed}
 use Rattle.checks.specs.Table.{Table, recordCount, recordOf}
 use Rattle.checks.specs.Checks.{rowShapeFaults, wordFaults, rowChecks}
 use Rattle.operations.specs.Limits.{parameterLimit}
-use Rattle.operations.specs.Kind.{Use, asRow, asNumber, unused, Rule, sameWidth, sameWidths, takenWidth, joinedWidths, extendedWidth, comparedWidths, chosenWidths}
+use Rattle.operations.specs.Kind.{Use, asRow, asNumber, asCount, asBase, unused, Rule, sameWidth, sameWidths, takenWidth, joinedWidths, extendedWidth, comparedWidths, chosenWidths, cellWidths, isRow}
+use Rattle.operations.specs.Kinds.{kindOf}
+use Rattle.operations.specs.declared.Record.{Record}
 
 abbrev pub byteLimit : ℕ
 byteLimit = 255
@@ -26,17 +31,31 @@ byteLimit = 255
 abbrev pub limitOf : ℕ → Use → ℕ
 limitOf n asRow = n
 limitOf n asNumber = suc parameterLimit
+limitOf n asCount = 1
+limitOf n asBase = 1
 limitOf n unused = 1
 
 -- the words that name rows whose widths the rule asks for name rows of the table, which has n rows
 abbrev pub Reads : Rule → ℕ → ℕ → ℕ → Type 0
-Reads sameWidth n b p = Unit
-Reads sameWidths n b p = b < n
-Reads takenWidth n b p = Unit
-Reads joinedWidths n b p = b < n
-Reads extendedWidth n b p = Unit
-Reads comparedWidths n b p = b < n
-Reads chosenWidths n b p = (b < n) × (p < n)
+Reads sameWidth n b c = Unit
+Reads sameWidths n b c = b < n
+Reads takenWidth n b c = Unit
+Reads joinedWidths n b c = b < n
+Reads extendedWidth n b c = Unit
+Reads comparedWidths n b c = b < n
+Reads chosenWidths n b c = (b < n) × (c < n)
+Reads cellWidths n b c = Unit
+
+-- x, y: the two rows named beside the span; z: the word that is unused
+abbrev pub spanFaults : ℕ → ℕ → ℕ → ℕ → ℕ → ℕ → List Fault
+spanFaults n x y base count z =
+    fault (leb n x) 7
+    ∷ fault (leb n y) 7
+    ∷ fault (leb n base) 7
+    ∷ fault (ltb n (base + count)) 7
+    ∷ fault (not (eqb z 0)) 8
+    ∷ fault (eqb count 0) 8
+    ∷ []
 
 -- the four row slices have one length
 pub record RowSlices (widths locks masks values : List ℕ) : Type 0 where
@@ -48,6 +67,11 @@ pub record RowSlices (widths locks masks values : List ℕ) : Type 0 where
 pub record WordsPassed (n : ℕ) (words : List ℕ) : Type 0 where
   pub few : n ≤ rowLimit
   pub passed : Passed (placed 0 (namedFaults n words))
+
+-- the rows that a record writes are rows of a table of n rows: its row t, or its cells
+pub record TargetsIn (n : ℕ) (r : Record) : Type 0 where
+  pub row-in : T (isRow (kindOf (r .kind) .use-t)) → r .t < n
+  pub cells-in : T (not (isRow (kindOf (r .kind) .use-t))) → r .c + r .p ≤ n
 
 -- check 10, where it is asked for
 abbrev pub lockWith : Bool → List ℕ → List ℕ → ℕ → List Check

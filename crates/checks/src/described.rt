@@ -3,11 +3,12 @@ ghost use mathlib.Core.Path.{_≡_};
 ghost use mathlib.Core.List.{[], _∷_};
 ghost use mathlib.Core.Bool.{_&&_};
 ghost use Prim.Native.Nat.{_≤_, _<_};
-ghost use lib.Dec.{eqb, leb, ltb};
+ghost use lib.Dec.{T, eqb, leb, ltb};
 ghost use lib.ListN.{length};
 ghost use Rattle.operations.specs.Kind.{Use, asks};
-ghost use Rattle.operations.specs.Record.{widthAt, wordOutside, misused};
-ghost use Rattle.operations.specs.Encoding.{useCode, ruleNumbered};
+ghost use Rattle.operations.specs.Record.{widthAt};
+ghost use Rattle.operations.specs.Faults.{wordOutside, misused};
+ghost use Rattle.operations.specs.Encoding.{useCode, isPlain, ruleNumbered};
 ghost use Rattle.checks.specs.Encoding.{byteLimit, limitOf, Reads};
 ghost use Rattle.checks.specs.Limits.{rowLimit};
 use crate::limits::PARAMETER_LIMIT;
@@ -23,7 +24,7 @@ pub fn row_outside(n: usize, word: u32) -> bool
 
 // Whether a word that is used as the code says lies outside a table of n rows.
 pub fn word_outside(code: u64, n: usize, word: u32) -> bool
-    ensures { λ r. ⌜ ((u : Use) → code ≡ useCode u → r ≡ wordOutside n u word) ⌝ }
+    ensures { λ r. ⌜ ((u : Use) → T (isPlain u) → code ≡ useCode u → r ≡ wordOutside n u word) ⌝ }
 {
     if code != 1 {
         return false;
@@ -33,7 +34,7 @@ pub fn word_outside(code: u64, n: usize, word: u32) -> bool
 
 // Whether a word that is used as the code says is none that the kind may have.
 pub fn word_misused(code: u64, word: u32) -> bool
-    ensures { λ r. ⌜ ((u : Use) → code ≡ useCode u → r ≡ misused u word) ⌝ }
+    ensures { λ r. ⌜ ((u : Use) → T (isPlain u) → code ≡ useCode u → r ≡ misused u word) ⌝ }
 {
     if code == 1 {
         return false;
@@ -72,12 +73,20 @@ pub fn width_at(width: &[u8], i: usize) -> usize
     wide(width[i]) as usize
 }
 
-// Whether the widths fit: the target's, the first operand's, and those of the rows b and p, read where the rule of that code asks for them.
-pub fn rule_fits(width: &[u8], code: u64, wt: usize, wa: usize, b: usize, p: usize) -> bool
-    requires { ⌜ (code < 7) × (wt ≤ byteLimit) × (wa ≤ byteLimit) × (p ≤ rowLimit) × Reads (ruleNumbered code) (length (now width)) b p ⌝ }
+// Whether the widths fit, of a kind without cells: the target's, the first operand's, and those of the rows b and c, read where the rule of that code asks for them.
+pub fn rule_fits(
+    width: &[u8],
+    code: u64,
+    wt: usize,
+    wa: usize,
+    b: usize,
+    p: usize,
+    c: usize,
+) -> bool
+    requires { ⌜ (code < 7) × (wt ≤ byteLimit) × (wa ≤ byteLimit) × (p ≤ rowLimit) × Reads (ruleNumbered code) (length (now width)) b c ⌝ }
     ensures { λ r.
         let widths = now (width .entry) in
-        ⌜ r ≡ asks (ruleNumbered code) wt (wa ∷ widthAt widths b ∷ widthAt widths p ∷ []) p ⌝ }
+        ⌜ r ≡ asks (ruleNumbered code) wt (wa ∷ widthAt widths b ∷ widthAt widths c ∷ []) p ⌝ }
 {
     match code {
         0 => wt == wa,
@@ -88,7 +97,7 @@ pub fn rule_fits(width: &[u8], code: u64, wt: usize, wa: usize, b: usize, p: usi
         5 => both(wa == width_at(width, b), wt == 1),
         _ => both(
             same_widths(wt, wa, width_at(width, b)),
-            width_at(width, p) == 1,
+            width_at(width, c) == 1,
         ),
     }
 }

@@ -4,8 +4,10 @@ ghost use mathlib.Core.List.{List, _++_};
 ghost use Rattle.checks.specs.Check.{refused, Check};
 ghost use Rattle.checks.specs.Model.{verdictModel, judged};
 
+pub mod cells; // cells.rt: checks 7 to 10 of a load and a store
 pub mod described; // described.rt: what each kind uses and asks of the widths
 pub mod limits; // limits.rt: numbers that 01 sets
+pub mod named; // named.rt: checks 6 to 8 of a record
 pub mod records; // records.rt: checks 6 to 10
 pub mod refusals; // refusals.rt: the numbers of the refusals
 pub mod rows; // rows.rt: checks 4 and 5, and 15 of a bit number

@@ -17,7 +17,7 @@ use Rattle.checks.specs.Checks.{bitFaults, rowNamedFaults, runChecks}
 use Rattle.checks.specs.Model.{judged}
 use Rattle.checks.proofs.Verdicts.{passed-append, passed-left, passed-right, passed-of-done, done-same, hits, clears, verdict-passed, verdict-refused}
 use Rattle.checks.proofs.Accepts.{accepted-of-passed}
-use Rattle.tables.specs.Step.{after}
+use Rattle.steps.specs.Step.{after}
 use Rattle.tables.specs.Run.{Ran, programOf, fullRun}
 use Rattle.tables.specs.Encoding.{StretchReady}
 use Rattle.tables.proofs.Leaving.{leaving-done, leaving-refused, leaving-passed}

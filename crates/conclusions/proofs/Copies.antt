@@ -9,7 +9,7 @@ use lib.ListN.{length, getD, set, length-set}
 use Rattle.vectors.proofs.Rows.{and-of-apart}
 use Rattle.operations.specs.Record.{widthAt}
 use Rattle.checks.specs.Table.{State}
-use Rattle.tables.specs.Demand.{StateFits}
+use Rattle.steps.specs.States.{StateFits}
 use Rattle.conclusions.specs.Encoding.{Copyable, TrialRows}
 use lib.Seq.{ext-getD, getD-set-same, getD-set-other}
 

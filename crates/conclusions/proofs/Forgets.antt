@@ -13,8 +13,8 @@ use Rattle.bits.proofs.Constants.{bit-pow, bit-pow-other}
 use Rattle.bits.proofs.SameBits.{differ-cases}
 use Rattle.vectors.specs.Row.{Row, WellFormed}
 use Rattle.checks.specs.Table.{State, rowAt}
-use Rattle.tables.specs.Demand.{StateFits}
-use Rattle.tables.proofs.Put.{fits-put}
+use Rattle.steps.specs.States.{StateFits}
+use Rattle.steps.proofs.Put.{fits-put}
 use Rattle.conclusions.specs.Pass.{Position, forgetBit, forget}
 use Rattle.conclusions.specs.Encoding.{InTable}
 

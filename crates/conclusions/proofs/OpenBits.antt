@@ -19,7 +19,7 @@ module _ (P : Position → Type 0) (t : Table) where
   row-all i h = go (eqb (getD (t .locks) i 0) 0) (eqb→eq (getD (t .locks) i 0) 0)
     where
       go : (b : Bool) → (T b → getD (t .locks) i 0 ≡ 0) → All P (cond b (listed (position i) 0 (widthAt (t .widths) i)) [])
-      go true e = listed-all P (position i) 0 (widthAt (t .widths) i) (λ k u. h (e tt) k (omega arith))
+      go true e = listed-all P (position i) 0 (widthAt (t .widths) i) (λ k l u. h (e tt) k (omega arith))
       go false e = tt
 
   pub open-all : ((i k : ℕ) → i < length (t .widths) → getD (t .locks) i 0 ≡ 0 → k < widthAt (t .widths) i → P (position i k)) → All P (openBits t)

@@ -14,7 +14,7 @@ use Rattle.checks.specs.Table.{State, rowAt, Table, startOf, withRows, recordCo
 use Rattle.checks.specs.Check.{done}
 use Rattle.checks.specs.Accepted.{Accepted}
 use Rattle.tables.specs.Run.{runOf}
-use Rattle.tables.specs.Demand.{StateFits, InsideState}
+use Rattle.steps.specs.States.{StateFits, InsideState}
 use Rattle.tables.proofs.Demand3.{start-fits}
 use Rattle.tables.proofs.FullRuns.{full-demand3}
 use Rattle.conclusions.specs.declared.Conclusion.{Conclusion}

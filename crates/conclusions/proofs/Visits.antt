@@ -9,7 +9,7 @@ use borrow.Author.Tests.{ne-eqb}
 use Rattle.bits.specs.Bit.{bit}
 use Rattle.vectors.specs.Lists.{All}
 use Rattle.checks.specs.Table.{State, Table, withRows}
-use Rattle.tables.specs.Demand.{StateFits}
+use Rattle.steps.specs.States.{StateFits}
 use Rattle.conclusions.specs.declared.Conclusion.{Conclusion}
 use Rattle.conclusions.specs.Pass.{concludesb, Position, forget, knownAt, visit, walk}
 use Rattle.conclusions.specs.Encoding.{InTable}

@@ -12,8 +12,8 @@ use Rattle.bits.proofs.Bools.{eq→eqb}
 use Rattle.vectors.specs.Row.{Row, WellFormed, Inside}
 use Rattle.vectors.proofs.Insides.{inside-known, inside-of-known}
 use Rattle.checks.specs.Table.{State, rowAt}
-use Rattle.tables.specs.Demand.{StateFits, InsideState}
-use Rattle.tables.proofs.Put.{row-same, row-other, inside-put}
+use Rattle.steps.specs.States.{StateFits, InsideState}
+use Rattle.steps.proofs.Put.{row-same, row-other, inside-put}
 use Rattle.conclusions.specs.Pass.{Position, forgetBit, forget, knownAt}
 use Rattle.conclusions.specs.Encoding.{InTable}
 use Rattle.conclusions.proofs.Forgets.{forget-mask-same, forget-mask-other, forget-value-other}

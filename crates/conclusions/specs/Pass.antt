@@ -19,7 +19,7 @@ use Rattle.bits.specs.Counted.{listed, rising}
 use Rattle.vectors.specs.Row.{Row, row, KnownAs}
 use Rattle.operations.specs.Record.{widthAt}
 use Rattle.checks.specs.Table.{State, rowAt, Table, startOf}
-use Rattle.tables.specs.Step.{put}
+use Rattle.steps.specs.Step.{put}
 use Rattle.tables.specs.Run.{fullRun}
 use Rattle.conclusions.specs.declared.Conclusion.{Conclusion}
 

@@ -15,12 +15,13 @@ use Prim.Native.Nat.{ℕ, _<_}
 use lib.Dec.{T}
 use lib.ListN.{length, getD}
 use Rattle.bits.specs.Bit.{bit, isSet}
-use Rattle.operations.specs.Record.{Fault, fault, widthAt}
+use Rattle.operations.specs.Record.{widthAt}
+use Rattle.operations.specs.Faults.{Fault, fault}
 use Rattle.checks.specs.Check.{done, Check, verdict, placed}
 use Rattle.checks.specs.Table.{State, rowAt, Table, startOf, withRows, recordCount}
 use Rattle.checks.specs.Checks.{bitFaults, rowNamedFaults, runChecks}
 use Rattle.tables.specs.Run.{Ran, leaving, runOf}
-use Rattle.tables.specs.Demand.{StateFits, InsideState}
+use Rattle.steps.specs.States.{StateFits, InsideState}
 use Rattle.conclusions.specs.declared.Conclusion.{Conclusion}
 use Rattle.conclusions.specs.Pass.{ended, Concludes, Position, forget, knownAt, passRows}
 

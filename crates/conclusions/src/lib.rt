@@ -6,7 +6,7 @@ ghost use Prim.Native.Nat.{ℕ, _<_};
 ghost use lib.Dec.{eqb};
 ghost use lib.ListN.{length};
 ghost use Rattle.bits.specs.Bit.{bit};
-ghost use Rattle.tables.specs.Model.{held};
+ghost use Rattle.steps.specs.States.{held};
 ghost use Rattle.conclusions.specs.Encoding.{Copyable};
 ghost use Rattle.conclusions.specs.Pass as Pass;
 ghost use Rattle.conclusions.specs.Pass.{position};

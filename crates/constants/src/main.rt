@@ -6,12 +6,14 @@ ghost use Rattle.grammar.specs.Limits.{rowBytes, recordBytes};
 use checks::limits;
 use checks::refusals;
 use lines::limits::NUMBER_LIMIT;
+use lines::limits::OLDER_KINDS;
 use operations::KINDS;
 use operations::RECORD_WORDS;
 use operations::name_byte;
 use operations::name_len;
 use rifflerleek::DONE;
 use rifflerleek::UNKNOWN_BIT;
+use texts::limits::HEADER_BYTES;
 use texts::limits::RECORD_BYTES;
 use texts::limits::ROW_BYTES;
 use texts::limits::TEXT_LIMIT;
@@ -99,6 +101,8 @@ fn print_limits() {
     print_line(b"parameter_limit", limits::PARAMETER_LIMIT as usize);
     print_line(b"text_limit", TEXT_LIMIT);
     print_line(b"number_limit", NUMBER_LIMIT as usize);
+    print_line(b"older_kinds", OLDER_KINDS as usize);
+    print_line(b"header_bytes", HEADER_BYTES);
     print_line(b"row_bytes", row_bytes());
     print_line(b"record_bytes", record_bytes());
 }

@@ -1,9 +1,10 @@
 // The executed tests: every vector pair to width 4, through the public run on real tables, against plain enumeration of all choices.
-// The output has a line for each kind, then one for all records that name one row twice, one each for `product_bit`, `witnesses`, `range` and `reset_bits`, one
-// for drawn tables that lose nothing, one for the examples and the total: the name, the tables tried (for `product_bit`, `witnesses` and
-// `reset_bits` the bits, for `range` the pairs of ends), those that disagree.
+// The output has a line for each kind without cells, then one for all records that name one row twice, one each for `product_bit`, `witnesses`, `range` and
+// `reset_bits`, one for drawn tables that lose nothing, one for loads and stores, one for the examples and the total: the name, the tables tried (for
+// `product_bit`, `witnesses` and `reset_bits` the bits, for `range` the pairs of ends), those that disagree.
 use lossless_trials::sweeps::lossless;
-use oracle::shapes::KINDS;
+use memory_trials::sweeps::memories;
+use oracle::shapes::LOAD;
 use report::print_kind;
 use report::print_line;
 use report::print_tally;
@@ -18,12 +19,12 @@ use trials::examples::examples;
 mod report; // report.rt: the lines of the output
 mod sweeps; // sweeps.rt: all tables of a kind
 
-// All tables: a line for each kind, and one for all records that name one row twice.
+// All tables: a line for each kind without cells, and one for all records that name one row twice.
 fn print_tables() -> Tally {
     let mut total = none();
     let mut twice = none();
     let mut kind: u64 = 0;
-    while kind < KINDS {
+    while kind < LOAD {
         let tally = sweep(kind, Through::Run);
         print_kind(kind as usize);
         print_tally(tally);
@@ -50,11 +51,16 @@ fn main() {
     print_line(b"reset_bits", conclusions);
     let designs = lossless();
     print_line(b"lossless", designs);
+    let lookups = memories();
+    print_line(b"memory", lookups);
     let shown = examples();
     print_line(b"examples", shown);
     let calls = joined(joined(bits, pairs), joined(ends, conclusions));
     print_line(
         b"total",
-        joined(joined(tables, calls), joined(designs, shown)),
+        joined(
+            joined(tables, calls),
+            joined(joined(designs, lookups), shown),
+        ),
     );
 }

@@ -8,7 +8,7 @@ use Rattle.checks.specs.Check.{Answer, done, refused}
 use Rattle.checks.specs.Table.{State, Table, startOf, withRows, recordCount}
 use Rattle.checks.specs.Accepted.{Accepted}
 use Rattle.tables.specs.Run.{Ran, programOf, runOf}
-use Rattle.tables.specs.Demand.{StateFits}
+use Rattle.steps.specs.States.{StateFits}
 use Rattle.tables.proofs.Points.{after-fits}
 use Rattle.tables.proofs.Demand3.{ran-done, accepted-of-run, accepted-with, start-fits}
 use Rattle.checks.proofs.Verdicts.{not-done}

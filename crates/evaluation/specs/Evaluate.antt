@@ -21,7 +21,7 @@ use Rattle.tables.specs.Run.{Ran, runOf}
 use Rattle.grammar.specs.Limits.{textLimit, rowBytes, recordBytes}
 use Rattle.grammar.specs.Lists.{filled}
 use Rattle.operations.specs.Kind.{bytes}
-use Rattle.grammar.specs.Words.{lf, tab}
+use Rattle.grammar.specs.Words.{lf, tab, header3}
 use Rattle.grammar.specs.Print.{decimal, joined, textOf}
 use Rattle.grammar.specs.Lines.{tableRead}
 use Rattle.texts.specs.Calls.{Counts, readOf}
@@ -40,7 +40,7 @@ abbrev pub heldRecords : ℕ
 heldRecords = recordLimit
 
 abbrev pub outputRoom : ℕ
-outputRoom = rowBytes * heldRows + recordBytes * heldRecords
+outputRoom = length header3 + rowBytes * heldRows + recordBytes * heldRecords
 
 -- "11 over 40,000 bytes": one byte more shows a longer input to be longer
 abbrev pub textRoom : ℕ

@@ -14,6 +14,7 @@ use tables::RunAnswer;
 use tables::run;
 use texts::BytesAnswer;
 use texts::ReadAnswer;
+use texts::limits::HEADER_BYTES;
 use texts::limits::RECORD_BYTES;
 use texts::limits::ROW_BYTES;
 use texts::limits::TEXT_LIMIT;
@@ -23,8 +24,8 @@ use texts::write;
 // One byte more than a text may have: a buffer that shows a longer input to be longer.
 const TEXT_ROOM: usize = TEXT_LIMIT + 1;
 
-// The most bytes of the lines of the most rows and records, which no output exceeds.
-const OUTPUT_ROOM: usize = ROW_BYTES * ROW_LIMIT + RECORD_BYTES * RECORD_LIMIT;
+// The most bytes of the header and of the lines of the most rows and records, which no output exceeds: 38,922.
+const OUTPUT_ROOM: usize = HEADER_BYTES + ROW_BYTES * ROW_LIMIT + RECORD_BYTES * RECORD_LIMIT;
 
 // The words of the most records.
 const HELD_WORDS: usize = RECORD_WORDS * RECORD_LIMIT;

@@ -11,7 +11,7 @@ use native.Mathlib.Omega.{arith}
 use lib.Dec.{T, eqb, eqb→eq, eqb-refl}
 use lib.ListN.{length, take, drop}
 use Rattle.bits.proofs.Bools.{T-left, T-right, T-and, eq→eqb}
-use Rattle.grammar.specs.Lists.{allOf}
+use Rattle.vectors.specs.Lists.{allOf}
 use Rattle.grammar.specs.Print.{joined}
 use Rattle.grammar.specs.Cut.{onto, pieces, before}
 use Rattle.grammar.proofs.Tests.{decide, when-true, when-false, by-cond, ne→neqb, allOf-append}

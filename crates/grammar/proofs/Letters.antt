@@ -1,7 +1,7 @@
 -- The letters of a vector: printing and reading undo each other. Assumes nothing.
 --   letters-length, letters-letters   what is printed
 --   mask-back, value-back             what is printed is read as that vector
---   letters-back                      letters of any alphabet that were read are printed as what they mean
+--   letters-back                      letters of any alphabet that were read are printed as edition 3 has them
 use mathlib.Core.Path.{_≡_, refl, sym, ap, ap₂, _∙_, subst}
 use mathlib.Core.Bool.{Bool, true, false, cond, _||_}
 use mathlib.Core.Logic.{inl, inr}
@@ -16,11 +16,12 @@ use Rattle.bits.proofs.Bools.{T-left, T-right, T-and, T-or}
 use Rattle.bits.proofs.Bits.{bit-lt, digit-lt}
 use Rattle.bits.proofs.Shifts.{mod-pow-suc}
 use Rattle.vectors.specs.Row.{Row, WellFormed}
-use Rattle.grammar.specs.Lists.{allOf, isIn}
+use Rattle.grammar.specs.Lists.{isIn}
+use Rattle.vectors.specs.Lists.{allOf}
 use Rattle.grammar.specs.Words.{letter0, letter1, letterX, Alphabet, threeLetters}
 use Rattle.grammar.specs.Print.{letter, lettersOf}
 use Rattle.grammar.specs.Line.{numeral, maskBit, valueBit, isLetter}
-use Rattle.grammar.specs.Meaning.{letterMeant}
+use Rattle.grammar.specs.Form.{letterForm}
 
 abbrev mask-of : ℕ → ℕ
 mask-of b = maskBit threeLetters b
@@ -62,7 +63,7 @@ by-letter P p q r c t =
     at : (d : ℕ) → T (eqb c d || false) → P d → P c
     at d v h = elim (T-or (eqb c d) false v) [ inl w ↦ subst P (sym (eqb→eq c d w)) h | inr w ↦ absurd w ]
 
-letter-back : (a : Alphabet) (c : ℕ) → T (isLetter a c) → letter (maskBit a c) (valueBit a c) ≡ letterMeant a c
+letter-back : (a : Alphabet) (c : ℕ) → T (isLetter a c) → letter (maskBit a c) (valueBit a c) ≡ letterForm a c
 letter-back a c t = go (isIn c (a .zeros)) (isIn c (a .ones)) (isIn c (a .unknowns)) t
   where
     go : (z o u : Bool) → T (z || o || u) → letter (digit u) (digit o) ≡ cond u letterX (cond o letter1 (cond z letter0 c))
@@ -128,7 +129,7 @@ unfolding bit
 numeral-bit d h n b f = ap (λ (x : ℕ). x % 2) (numeral-high d h (n * 2 + d b) f) ∙ omega (arith, h b)
 
 pub letters-back : (a : Alphabet) (f : List ℕ) (m v : ℕ) → T (allOf (isLetter a) f)
-    → lettersOf (length f) (numeral 2 (maskBit a) m f) (numeral 2 (valueBit a) v f) ≡ map (letterMeant a) f
+    → lettersOf (length f) (numeral 2 (maskBit a) m f) (numeral 2 (valueBit a) v f) ≡ map (letterForm a) f
 unfolding lettersOf numeral allOf
 letters-back a [] m v t = refl
 letters-back a (b ∷ f) m v t =

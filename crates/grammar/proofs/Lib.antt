@@ -13,8 +13,9 @@ pub mod LineBacks
 pub mod Listed
 pub mod Sorted
 pub mod Openings
-pub mod Meanings
+pub mod Forms
 pub mod WordUses
+pub mod RecordLines
 pub mod WriteRead
 pub mod ReadWrite
 pub mod Sizes

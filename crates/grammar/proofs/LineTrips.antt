@@ -1,4 +1,4 @@
--- A line that is printed is read from its fields. Assumes nothing.
+-- A line that is printed is read from its fields, by edition 3. Assumes nothing.
 --   LineFits       the lines whose text is in the grammar
 --   line-trip      such a line is read from its fields
 --   fields-clean   no field of it holds a separator
@@ -14,8 +14,9 @@ use Rattle.operations.specs.Limits.{recordWords}
 use Rattle.operations.specs.Kinds.{kinds, isKind, kindOf}
 use Rattle.operations.specs.Record.{kindWord}
 use Rattle.grammar.specs.Limits.{numberLimit}
-use Rattle.grammar.specs.Lists.{allOf, same}
-use Rattle.grammar.specs.Words.{lockWord, threeLetters, edition1}
+use Rattle.grammar.specs.Lists.{same}
+use Rattle.vectors.specs.Lists.{allOf}
+use Rattle.grammar.specs.Words.{lockWord, threeLetters, edition3}
 use Rattle.grammar.specs.Print.{decimal, lettersOf, LineRow, Line, rowLine, recordLine, outside, fieldsOf}
 use Rattle.grammar.specs.Line.{isDigit, isNumber, numberOf, isLetter, isVector, vectorOf, isLock, lockOf, isName, numberNamed, lineOf}
 use Rattle.grammar.proofs.Tests.{when-true, allOf-imp, allOf-map, undone}
@@ -46,7 +47,7 @@ lock-is (suc (suc l)) h = absurd (omega arith)
 
 -- ---- reading what was printed
 
-row-trip : (r : LineRow) → RowFits r → lineOf edition1 (fieldsOf (rowLine r)) ≡ rowLine r
+row-trip : (r : LineRow) → RowFits r → lineOf edition3 (fieldsOf (rowLine r)) ≡ rowLine r
 unfolding lineOf fieldsOf same
 row-trip r fits =
     when-true (isLock lock && isVector threeLetters vector) (rowLine (record { lock = lockOf lock; vector = vectorOf threeLetters vector })) outside
@@ -66,20 +67,20 @@ row-trip r fits =
     vector : List ℕ
     vector = lettersOf (r .vector .width) (r .vector .mask) (r .vector .value)
 
-record-trip : (words : List ℕ) → RecordFits words → lineOf edition1 (fieldsOf (recordLine words)) ≡ recordLine words
+record-trip : (words : List ℕ) → RecordFits words → lineOf edition3 (fieldsOf (recordLine words)) ≡ recordLine words
 unfolding lineOf fieldsOf same
 record-trip [] fits = absurd (omega (arith, fits .count))
 record-trip (k ∷ ns) fits =
-    when-true (isName name kinds && eqb (length (map decimal ns)) 4 && allOf isNumber (map decimal ns)) (recordLine (numberNamed name kinds ∷ map numberOf (map decimal ns))) outside
-    (T-and (isName name kinds && eqb (length (map decimal ns)) 4) (allOf isNumber (map decimal ns))
-    (T-and (isName name kinds) (eqb (length (map decimal ns)) 4) (name-known k (fits .known)) (eq→eqb (length-map ns decimal ∙ omega (arith, fits .count))))
+    when-true (isName name kinds && eqb (length (map decimal ns)) 5 && allOf isNumber (map decimal ns)) (recordLine (numberNamed name kinds ∷ map numberOf (map decimal ns))) outside
+    (T-and (isName name kinds && eqb (length (map decimal ns)) 5) (allOf isNumber (map decimal ns))
+    (T-and (isName name kinds) (eqb (length (map decimal ns)) 5) (name-known k (fits .known)) (eq→eqb (length-map ns decimal ∙ omega (arith, fits .count))))
     (allOf-map isNumber decimal (λ x. leb x numberLimit) (λ x t. decimal-number x (leb→le x numberLimit t)) ns (fits .small)))
     ∙ ap recordLine (ap₂ {C = List ℕ} _∷_ (name-number k (fits .known)) (undone decimal numberOf (λ x. leb x numberLimit) (λ x t. number-decimal x) ns (fits .small)))
   where
     name : List ℕ
     name = kindOf k .name
 
-pub line-trip : (l : Line) → LineFits l → lineOf edition1 (fieldsOf l) ≡ l
+pub line-trip : (l : Line) → LineFits l → lineOf edition3 (fieldsOf l) ≡ l
 line-trip (rowLine r) fits = row-trip r fits
 line-trip (recordLine words) fits = record-trip words fits
 line-trip outside fits = absurd fits

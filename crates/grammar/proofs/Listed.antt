@@ -1,9 +1,9 @@
 -- Lists made by counting up, and the lines of a table. Assumes nothing.
---   listed-ext .. listed-map              lists made by counting up
+--   listed-getD                           a list, by its elements
 --   bad-none, rows-listed, words-listed    the lines of a table hold its rows and words, and none is bad
-use mathlib.Core.Path.{_≡_, refl, sym, ap, ap₂, _∙_}
+use mathlib.Core.Path.{_≡_, refl, sym, ap, _∙_}
 use mathlib.Core.Bool.{Bool, true, false}
-use mathlib.Core.List.{List, [], _∷_, _++_, map}
+use mathlib.Core.List.{List, [], _∷_, _++_}
 use Prim.Native.Nat.{ℕ, zero, suc, _+_, _*_}
 use native.Mathlib.Nat.{mul-suc}
 use native.Mathlib.Omega.{arith}
@@ -13,21 +13,10 @@ use Rattle.bits.specs.Counted.{listed}
 use Rattle.grammar.specs.Print.{LineRow, Line, rowLine, recordLine}
 use Rattle.grammar.specs.Lines.{firstBad, rowsIn, wordsIn}
 
-module _ {A : Type 0} where
-  pub listed-ext : (f g : ℕ → A) → ((j : ℕ) → f j ≡ g j) → (i n : ℕ) → listed f i n ≡ listed g i n
-  unfolding listed
-  listed-ext f g h i zero = refl
-  listed-ext f g h i (suc n) = ap₂ {C = List A} _∷_ (h i) (listed-ext f g h (suc i) n)
-
-  pub listed-getD : (l : List A) (d : A) (i n : ℕ) → i + n ≡ length l → listed (λ j. getD l j d) i n ≡ drop i l
-  unfolding listed
-  listed-getD l d i zero e = let h : i ≡ length l = omega arith in sym (ap (λ (x : ℕ). drop x l) h ∙ drop-length l)
-  listed-getD l d i (suc n) e = ap {B = List A} (λ (r : List A). getD l i d ∷ r) (listed-getD l d (suc i) n (omega arith)) ∙ sym (drop-cons l i d (omega arith))
-
-pub listed-map : {A B : Type 0} (g : A → B) (f : ℕ → A) (i n : ℕ) → map g (listed f i n) ≡ listed (λ j. g (f j)) i n
+pub listed-getD : {A : Type 0} (l : List A) (d : A) (i n : ℕ) → i + n ≡ length l → listed (λ j. getD l j d) i n ≡ drop i l
 unfolding listed
-listed-map g f i zero = refl
-listed-map {B = B} g f i (suc n) = ap {B = List B} (λ (r : List B). g (f i) ∷ r) (listed-map g f (suc i) n)
+listed-getD l d i zero e = let h : i ≡ length l = omega arith in sym (ap (λ (x : ℕ). drop x l) h ∙ drop-length l)
+listed-getD {A} l d i (suc n) e = ap {B = List A} (λ (r : List A). getD l i d ∷ r) (listed-getD l d (suc i) n (omega arith)) ∙ sym (drop-cons l i d (omega arith))
 
 -- ---- the lines of a table, read
 

@@ -1,6 +1,7 @@
 -- The names of the operations: each rule is one computed test of all kinds. Assumes nothing.
 --   kind-passes       a test of all kinds holds of the kind that a number finds
 --   name-known, name-number   the name of a known kind is a name, and that kind's
+--   Known ks          every kind of the list is well named;   known-all, known-older   all kinds, and those of the older editions
 --   name-back         the kind that a name finds has that name
 --   clean             no byte of a word is a separator;   name-clean   a name is clean
 use mathlib.Core.Path.{_≡_, sym, ap, _∙_}
@@ -9,13 +10,17 @@ use mathlib.Core.Logic.{inl, inr}
 use mathlib.Core.List.{List, [], _∷_}
 use Prim.Native.Nat.{ℕ}
 use lib.Dec.{T, ltb, eqb, eqb→eq}
+use lib.ListN.{take}
 use Rattle.bits.proofs.Bools.{T-left, T-right}
 use Rattle.operations.specs.Kind.{Kind}
 use Rattle.operations.specs.Kinds.{kinds, isKind, kindOf}
 use Rattle.operations.proofs.Lookup.{each-kind}
-use Rattle.grammar.specs.Lists.{allOf, same}
+use Rattle.grammar.specs.Lists.{same}
+use Rattle.vectors.specs.Lists.{allOf}
+use Rattle.grammar.specs.Words.{olderKinds}
 use Rattle.grammar.specs.Line.{isName, numberNamed}
-use Rattle.grammar.proofs.Tests.{allOf-all, decide, or-right, when-true, when-false, same→eq}
+use Rattle.grammar.proofs.Tests.{decide, or-right, when-true, when-false, same→eq}
+use Rattle.vectors.proofs.Lists.{allOf-all}
 
 -- ---- a kind found in a list
 
@@ -58,6 +63,17 @@ names-right : T (allOf wellNamed kinds)
 unfolding allOf same kindOf
 names-right = tt
 
+-- the names of a list of kinds are those of its kinds
+abbrev pub Known : List Kind → Type 0
+Known ks = T (allOf wellNamed ks)
+
+pub known-all : Known kinds
+known-all = names-right
+
+pub known-older : Known (take olderKinds kinds)
+unfolding allOf same kindOf
+known-older = tt
+
 -- the four parts of the test
 parts : (k : Kind) → T (wellNamed k) → T (isName (k .name) kinds) × (numberNamed (k .name) kinds ≡ k .number) × (kindOf (k .number) .name ≡ k .name) × T (clean (k .name))
 parts k t =
@@ -78,7 +94,7 @@ module _ (n : ℕ) (known : T (isKind n)) where
   pub name-clean : T (clean (kindOf n .name))
   name-clean = parts (kindOf n) (kind-passes wellNamed names-right n known .0) .3
 
-pub name-back : (f : List ℕ) → T (isName f kinds) → kindOf (numberNamed f kinds) .name ≡ f
-name-back f t =
-    let h = named wellNamed f kinds t names-right in
+pub name-back : (ks : List Kind) → Known ks → (f : List ℕ) → T (isName f ks) → kindOf (numberNamed f ks) .name ≡ f
+name-back ks known f t =
+    let h = named wellNamed f ks t known in
     ap (λ (n : ℕ). kindOf n .name) (sym (h .number-is)) ∙ parts (h .kind) (h .passes) .2 ∙ h .name-is

@@ -12,7 +12,7 @@ use lib.Dec.{T, leb, leb→le, le→leb}
 use lib.ListN.{length}
 use Rattle.bits.proofs.Bools.{T-left, T-right, T-and}
 use Rattle.grammar.specs.Limits.{numberLimit}
-use Rattle.grammar.specs.Lists.{allOf}
+use Rattle.vectors.specs.Lists.{allOf}
 use Rattle.grammar.specs.Print.{decimal}
 use Rattle.grammar.specs.Line.{numeral, isDigit, leadingZero, isNumber, numberOf}
 use Rattle.grammar.proofs.Tests.{ne→neqb, neqb→ne, allOf-append, all-one}

@@ -1,9 +1,9 @@
--- The text of the table that a text with no bad line holds is the meaning of that text. Assumes nothing.
+-- The text of the table that a text with no bad line holds is the edition-3 form of that text. Assumes nothing.
 --   table-text   that;   records-whole   the words that it holds make up whole records
 use mathlib.Core.Path.{_≡_, refl, sym, ap, ap₂, _∙_, subst}
 use mathlib.Core.Bool.{Bool, true, false, not}
 use mathlib.Core.List.{List, [], _∷_, _++_, map}
-use Prim.Native.Nat.{ℕ, suc, _+_, _*_, _/_}
+use Prim.Native.Nat.{ℕ, suc, _*_, _/_}
 use native.Mathlib.Nat.{mul-div-cancel, zero-lt-suc}
 use native.Mathlib.Omega.{arith}
 use lib.Dec.{T}
@@ -14,15 +14,18 @@ use Rattle.vectors.specs.Lists.{All}
 use Rattle.operations.specs.Limits.{recordWords}
 use Rattle.checks.specs.Table.{recordCount, recordOf}
 use Rattle.bits.specs.Counted.{listed}
-use Rattle.grammar.specs.Words.{lf, tab, Alphabet, Edition, withLetters}
+use Rattle.grammar.specs.Words.{lf, tab, Edition, header3}
 use Rattle.grammar.specs.Print.{LineRow, Line, rowLine, recordLine, outside, fieldsOf, joined, lineText, linesText, lineRow, rowLines, recordLines, tableLines, textOf}
+use Rattle.grammar.specs.Lists.{same}
 use Rattle.grammar.specs.Cut.{pieces}
 use Rattle.grammar.specs.Line.{lineOf}
 use Rattle.grammar.specs.Lines.{linesOf, opening, linesIn, firstBad, rowsIn, wordsIn, tableIn, tableRead}
-use Rattle.grammar.specs.Meaning.{lineMeant, meaningOf}
+use Rattle.grammar.specs.Form.{lineForm, formOf}
 use Rattle.grammar.proofs.LineBacks.{isOutside, Shaped, line-back}
-use Rattle.grammar.proofs.Listed.{listed-ext, listed-getD, listed-map}
-use Rattle.grammar.proofs.Openings.{opening-first, opening-letters, lines-after}
+use Rattle.grammar.proofs.Listed.{listed-getD}
+use Rattle.vectors.proofs.ListParts.{listed-ext, listed-map}
+use Rattle.grammar.proofs.Openings.{opening-first, opening-known, lines-after}
+use Rattle.grammar.proofs.Names.{Known}
 use Rattle.grammar.proofs.Sorted.{bad-from-one, rows-first, recordsOf, Records, records-pass, words-records, words-count, words-cut}
 
 -- no line before the first bad one is outside the grammar
@@ -33,19 +36,19 @@ good-here false n (rowLine r) ls e = (tt, (false, e))
 good-here later n (recordLine ws) ls e = (tt, (true, e))
 good-here later n outside ls e = absurd (omega arith)
 
--- the lines that were read with the alphabet a print as what the bytes mean that they were read from
-lines-back : (a : Alphabet) (ps : List (List ℕ)) (later : Bool) (n : ℕ) → firstBad later (suc n) (linesOf (withLetters a) ps) ≡ 0
-    → (linesText (linesOf (withLetters a) ps) ≡ joined lf (map (lineMeant a) ps)) × All Shaped (linesOf (withLetters a) ps)
+-- the lines that were read by the edition ed print as the edition-3 form of the bytes that they were read from
+lines-back : (ed : Edition) → Known (ed .operations) → (ps : List (List ℕ)) (later : Bool) (n : ℕ) → firstBad later (suc n) (linesOf ed ps) ≡ 0
+    → (linesText (linesOf ed ps) ≡ joined lf (map (lineForm ed) ps)) × All Shaped (linesOf ed ps)
 unfolding linesOf linesText lineText joined
-lines-back a [] b n e = (refl, tt)
-lines-back a ([] ∷ []) b n e = (unfold pieces in refl, tt)
-lines-back a ((x ∷ p) ∷ []) b n e = absurd (unfold firstBad in omega arith)
-lines-back a (p ∷ q ∷ ps) b n e =
-    let l = lineOf (withLetters a) (pieces tab p) in
-    let ls = linesOf (withLetters a) (q ∷ ps) in
+lines-back ed known [] b n e = (refl, tt)
+lines-back ed known ([] ∷ []) b n e = (unfold pieces in unfold same in refl, tt)
+lines-back ed known ((x ∷ p) ∷ []) b n e = absurd (unfold firstBad in omega arith)
+lines-back ed known (p ∷ q ∷ ps) b n e =
+    let l = lineOf ed (pieces tab p) in
+    let ls = linesOf ed (q ∷ ps) in
     let h = good-here b n l ls e in
-    let here = line-back a (pieces tab p) (h .0) in
-    let rest = lines-back a (q ∷ ps) (h .1 .0) (suc n) (h .1 .1) in
+    let here = line-back ed known (pieces tab p) (h .0) in
+    let rest = lines-back ed known (q ∷ ps) (h .1 .0) (suc n) (h .1 .1) in
     (append-snoc (joined tab (fieldsOf l)) lf (linesText ls) ∙ ap₂ (λ (x y : List ℕ). x ++ lf ∷ y) (ap (joined tab) (here .0)) (rest .0), (here .1, rest .1))
 
 no-row : LineRow
@@ -68,7 +71,7 @@ module _ (ls : List Line) (good : firstBad false 1 ls ≡ 0) (shaped : All Shape
   unfolding tableIn
   rows-lines =
       ap (listed (λ i. rowLine (lineRow (tableIn ls) i)) 0) (length-map (rowsIn ls) (λ (r : LineRow). r .vector .width))
-      ∙ listed-ext (λ i. rowLine (lineRow (tableIn ls) i)) (λ i. rowLine (getD (rowsIn ls) i no-row)) (λ i. ap rowLine (row-is i)) 0 (length (rowsIn ls))
+      ∙ listed-ext (λ i. rowLine (lineRow (tableIn ls) i)) (λ i. rowLine (getD (rowsIn ls) i no-row)) 0 (length (rowsIn ls)) (λ i l u. ap rowLine (row-is i))
       ∙ sym (listed-map rowLine (λ i. getD (rowsIn ls) i no-row) 0 (length (rowsIn ls)))
       ∙ ap (map rowLine) (listed-getD (rowsIn ls) no-row 0 (length (rowsIn ls)) (omega arith))
 
@@ -80,7 +83,7 @@ module _ (ls : List Line) (good : firstBad false 1 ls ≡ 0) (shaped : All Shape
 
   records-count : recordCount (tableIn ls) ≡ length (recordsOf ls)
   unfolding tableIn
-  records-count = ap (λ (x : ℕ). x / recordWords) words-whole ∙ mul-div-cancel (length (recordsOf ls)) (zero-lt-suc 4)
+  records-count = ap (λ (x : ℕ). x / recordWords) words-whole ∙ mul-div-cancel (length (recordsOf ls)) (zero-lt-suc 5)
 
   records-lines : recordLines (tableIn ls) ≡ recordsOf ls
   unfolding tableIn
@@ -94,27 +97,24 @@ module _ (ls : List Line) (good : firstBad false 1 ls ≡ 0) (shaped : All Shape
   table-lines = ap₂ (λ (x y : List Line). x ++ y) rows-lines records-lines ∙ rows-first 0 ls good
 
 module _ (text : List ℕ) (good : firstBad false (opening text .first) (linesIn text) ≡ 0) where
-  abbrev letters : Alphabet
-  letters = opening text .edition .letters
+  abbrev ed : Edition
+  ed = opening text .edition
 
   abbrev parts : List (List ℕ)
   parts = pieces lf (drop (opening text .at) text)
 
-  lines-are : linesIn text ≡ linesOf (withLetters letters) parts
-  lines-are = lines-after text ∙ ap (λ (e : Edition). linesOf e parts) (opening-letters text)
-
   from-one : firstBad false 1 (linesIn text) ≡ 0
   from-one = bad-from-one (opening text .first) (linesIn text) (opening-first text .0) good
 
-  backs : (linesText (linesOf (withLetters letters) parts) ≡ joined lf (map (lineMeant letters) parts)) × All Shaped (linesOf (withLetters letters) parts)
-  backs = lines-back letters parts false 0 (sym (ap (firstBad false 1) lines-are) ∙ from-one)
+  backs : (linesText (linesOf ed parts) ≡ joined lf (map (lineForm ed) parts)) × All Shaped (linesOf ed parts)
+  backs = lines-back ed (opening-known text) parts false 0 (sym (ap (firstBad false 1) (lines-after text)) ∙ from-one)
 
   shapes : All Shaped (linesIn text)
-  shapes = subst (All Shaped) (sym lines-are) (backs .1)
+  shapes = subst (All Shaped) (sym (lines-after text)) (backs .1)
 
   pub records-whole : (n : ℕ) × (length (wordsIn (linesIn text)) ≡ n * recordWords)
   records-whole = (length (recordsOf (linesIn text)), words-whole (linesIn text) from-one shapes)
 
-  pub table-text : textOf (tableRead text) ≡ meaningOf text
-  unfolding textOf meaningOf
-  table-text = ap linesText (table-lines (linesIn text) from-one shapes ∙ lines-are) ∙ backs .0
+  pub table-text : textOf (tableRead text) ≡ formOf text
+  unfolding textOf formOf
+  table-text = ap (λ (l : List ℕ). header3 ++ l) (ap linesText (table-lines (linesIn text) from-one shapes ∙ lines-after text) ∙ backs .0)

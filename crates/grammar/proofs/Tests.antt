@@ -11,8 +11,8 @@ use native.Mathlib.Nat.{not-suc-le-zero, le-of-suc-le-suc}
 use lib.Dec.{T, eqb, eqb→eq, eqb-refl, T-not, not-T}
 use lib.ListN.{length, getD}
 use Rattle.bits.proofs.Bools.{T-and, T-left, T-right, eq→eqb}
-use Rattle.vectors.specs.Lists.{All}
-use Rattle.grammar.specs.Lists.{allOf, same}
+use Rattle.vectors.specs.Lists.{allOf}
+use Rattle.grammar.specs.Lists.{same}
 
 pub decide : (b : Bool) → T b ⊎ T (not b)
 decide true = inl tt
@@ -60,11 +60,6 @@ module _ {A : Type 0} where
   unfolding allOf
   allOf-imp p q f [] t = tt
   allOf-imp p q f (a ∷ l) t = T-and (q a) (allOf q l) (f a (T-left (p a) (allOf p l) t)) (allOf-imp p q f l (T-right (p a) (allOf p l) t))
-
-  pub allOf-all : (p : A → Bool) (l : List A) → T (allOf p l) → All (λ a. T (p a)) l
-  unfolding allOf
-  allOf-all p [] t = tt
-  allOf-all p (a ∷ l) t = (T-left (p a) (allOf p l) t, allOf-all p l (T-right (p a) (allOf p l) t))
 
   pub allOf-append : (p : A → Bool) (l r : List A) → T (allOf p l) → T (allOf p r) → T (allOf p (l ++ r))
   unfolding allOf

@@ -11,7 +11,7 @@ use lib.ListN.{length}
 use Rattle.bits.proofs.Bools.{T-left, T-right, T-and}
 use Rattle.vectors.specs.Row.{WellFormed}
 use Rattle.bits.specs.Limits.{widthLimit}
-use Rattle.grammar.specs.Lists.{allOf}
+use Rattle.vectors.specs.Lists.{allOf}
 use Rattle.grammar.specs.Words.{Alphabet, threeLetters}
 use Rattle.grammar.specs.Print.{lettersOf, LineRow}
 use Rattle.grammar.specs.Line.{isLetter, isVector}

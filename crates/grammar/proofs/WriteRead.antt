@@ -4,31 +4,30 @@
 --   text-table   the table that the text holds is that table
 use mathlib.Core.Path.{_≡_, refl, ap, ap₂, _∙_}
 use mathlib.Core.Bool.{false, not}
-use mathlib.Core.List.{List, [], _∷_, map}
+use mathlib.Core.List.{List, [], _∷_, _++_, map}
 use Prim.Native.Nat.{ℕ, _+_, _*_, _≤_}
 use native.Mathlib.Omega.{arith}
 use lib.Dec.{T, ltb, eqb, ltb→lt}
 use lib.ListN.{length, getD, drop}
 use lib.Seq.{append-snoc}
-use Rattle.vectors.specs.Lists.{All}
+use Rattle.vectors.specs.Lists.{All, allOf}
 use Rattle.operations.specs.Limits.{recordWords}
 use Rattle.checks.specs.Table.{Table, recordCount, recordOf}
 use Rattle.checks.specs.Accepted.{TablePassed}
 use Rattle.bits.specs.Counted.{listed}
-use Rattle.grammar.specs.Lists.{allOf, same}
-use Rattle.grammar.specs.Words.{lf, tab, Edition, edition1}
+use Rattle.grammar.specs.Words.{lf, tab, Edition, edition3, header3}
 use Rattle.grammar.specs.Print.{LineRow, Line, rowLine, recordLine, outside, fieldsOf, joined, lineText, linesText, lineRow, rowLines, recordLines, tableLines, textOf}
 use Rattle.grammar.specs.Cut.{pieces}
 use Rattle.grammar.specs.Line.{lineOf}
-use Rattle.grammar.specs.Lines.{linesOf, linesFrom, headed, Opening, opening, linesIn, firstBad, rowsIn, wordsIn, tableIn, tableRead}
-use Rattle.grammar.proofs.Tests.{ne→neqb, allOf-imp}
+use Rattle.grammar.specs.Lines.{linesOf, linesFrom, headedBy, Opening, opening, linesIn, firstBad, rowsIn, wordsIn, tableIn, tableRead}
+use Rattle.grammar.proofs.Tests.{ne→neqb, allOf-imp, same-self}
 use Rattle.grammar.proofs.Cuts.{without, pieces-cut, pieces-joined, by-first, all-joined}
 use Rattle.grammar.proofs.Names.{clean}
 use Rattle.grammar.proofs.LineTrips.{LineFits, line-trip, fields-clean}
-use Rattle.vectors.proofs.ListParts.{all-append, listed-all}
-use Rattle.grammar.proofs.Listed.{listed-ext, listed-getD, listed-map, bad-none, rows-listed, words-after, words-listed}
-use Rattle.grammar.proofs.Openings.{opening-bare, lines-after}
-use Rattle.grammar.proofs.WordUses.{words-length, row-fits, record-fits}
+use Rattle.vectors.proofs.ListParts.{all-append, listed-all, listed-ext, listed-map}
+use Rattle.grammar.proofs.Listed.{listed-getD, bad-none, rows-listed, words-after, words-listed}
+use Rattle.grammar.proofs.Openings.{opening-third, lines-after}
+use Rattle.grammar.proofs.RecordLines.{words-length, row-fits, record-fits}
 
 -- ---- lines that fit are read from their text
 
@@ -51,25 +50,24 @@ pub next-line : (e : Edition) (p text : List ℕ) → linesOf e (p ∷ pieces lf
 unfolding linesOf
 next-line e p text = by-first (λ (ps : List (List ℕ)). linesOf e (p ∷ ps) ≡ lineOf e (pieces tab p) ∷ linesOf e ps) (λ q qs. refl) lf text
 
-lines-read : (ls : List Line) → All LineFits ls → linesFrom edition1 (linesText ls) ≡ ls
+lines-read : (ls : List Line) → All LineFits ls → linesFrom edition3 (linesText ls) ≡ ls
 unfolding linesText lineText
 lines-read [] h = unfold linesOf pieces in refl
 lines-read (l ∷ ls) h =
-    ap (λ (x : List ℕ). linesOf edition1 (pieces lf x)) (append-snoc (joined tab (fieldsOf l)) lf (linesText ls))
-    ∙ ap (linesOf edition1) (pieces-cut lf (joined tab (fieldsOf l)) (linesText ls) (no-end l (h .0)))
-    ∙ next-line edition1 (joined tab (fieldsOf l)) (linesText ls)
-    ∙ ap₂ {C = List Line} _∷_ (ap (lineOf edition1) (fields-cut l (h .0)) ∙ line-trip l (h .0)) (lines-read ls (h .1))
+    ap (λ (x : List ℕ). linesOf edition3 (pieces lf x)) (append-snoc (joined tab (fieldsOf l)) lf (linesText ls))
+    ∙ ap (linesOf edition3) (pieces-cut lf (joined tab (fieldsOf l)) (linesText ls) (no-end l (h .0)))
+    ∙ next-line edition3 (joined tab (fieldsOf l)) (linesText ls)
+    ∙ ap₂ {C = List Line} _∷_ (ap (lineOf edition3) (fields-cut l (h .0)) ∙ line-trip l (h .0)) (lines-read ls (h .1))
 
--- their text begins with no header
-no-header : (ls : List Line) → All LineFits ls → T (not (headed (linesText ls)))
-unfolding headed linesText lineText fieldsOf joined same
-no-header [] h = tt
-no-header (rowLine r ∷ ls) h = tt
-no-header (recordLine ws ∷ ls) h = tt
-no-header (outside ∷ ls) h = absurd (h .0)
+-- a text that begins with the header of edition 3 is of that edition
+headed-third : (text : List ℕ) → T (headedBy header3 (header3 ++ text))
+unfolding headedBy
+headed-third text = same-self header3
 
-lines-in : (ls : List Line) → All LineFits ls → linesIn (linesText ls) ≡ ls
-lines-in ls h = lines-after (linesText ls) ∙ ap (λ (o : Opening). linesFrom (o .edition) (drop (o .at) (linesText ls))) (opening-bare (linesText ls) (no-header ls h)) ∙ lines-read ls h
+lines-in : (ls : List Line) → All LineFits ls → linesIn (header3 ++ linesText ls) ≡ ls
+lines-in ls h =
+    let text = header3 ++ linesText ls in
+    lines-after text ∙ ap (λ (o : Opening). linesFrom (o .edition) (drop (o .at) text)) (opening-third text (headed-third (linesText ls))) ∙ lines-read ls h
 
 -- ---- a table that passed
 
@@ -78,8 +76,8 @@ module _ (t : Table) (P : TablePassed t) where
   unfolding tableLines
   lines-fit =
       all-append LineFits (rowLines t) (recordLines t)
-      (listed-all LineFits (λ i. rowLine (lineRow t i)) 0 (length (t .widths)) (λ j h. row-fits t P j (omega arith)))
-      (listed-all LineFits (λ i. recordLine (recordOf t i)) 0 (recordCount t) (λ j h. record-fits t P j (omega arith)))
+      (listed-all LineFits (λ i. rowLine (lineRow t i)) 0 (length (t .widths)) (λ j l h. row-fits t P j (omega arith)))
+      (listed-all LineFits (λ i. recordLine (recordOf t i)) 0 (recordCount t) (λ j l h. record-fits t P j (omega arith)))
 
   pub text-lines : linesIn (textOf t) ≡ tableLines t
   unfolding textOf
@@ -105,7 +103,7 @@ module _ (t : Table) (P : TablePassed t) where
   column f l e h =
       ap (map f) rows-are
       ∙ listed-map f (lineRow t) 0 (length (t .widths))
-      ∙ listed-ext (λ i. f (lineRow t i)) (λ i. getD l i 0) h 0 (length (t .widths))
+      ∙ listed-ext (λ i. f (lineRow t i)) (λ i. getD l i 0) 0 (length (t .widths)) (λ j l u. h j)
       ∙ listed-getD l 0 0 (length (t .widths)) (omega (arith, e))
 
   pub text-table : tableRead (textOf t) ≡ t

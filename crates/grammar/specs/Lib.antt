@@ -6,4 +6,4 @@ pub mod Print
 pub mod Cut
 pub mod Line
 pub mod Lines
-pub mod Meaning
+pub mod Form

@@ -1,4 +1,4 @@
--- Numbers that 01, "Calls", "Text" and "Who can cause a refusal" set.
+-- Numbers that 01, "Calls", "Text" and "Who can cause a refusal" set; a record line grows with 02, request 11.
 --   numberLimit   the greatest number of a record line
 --   textLimit     the most bytes of a text that read takes
 --   rowBytes      the most bytes of a row line;   recordBytes   the most bytes of a record line
@@ -14,4 +14,4 @@ abbrev pub rowBytes : ℕ
 rowBytes = 44
 
 abbrev pub recordBytes : ℕ
-recordBytes = 24
+recordBytes = 27

@@ -18,8 +18,9 @@ use Rattle.vectors.specs.Row.{Row, row}
 use Rattle.operations.specs.Kind.{Kind}
 use Rattle.bits.specs.Limits.{widthLimit}
 use Rattle.grammar.specs.Limits.{numberLimit}
-use Rattle.grammar.specs.Lists.{allOf, isIn, same}
-use Rattle.grammar.specs.Words.{rowWord, opWord, openWord, lockedWord, zeroByte, Alphabet, Edition}
+use Rattle.grammar.specs.Lists.{isIn, same}
+use Rattle.vectors.specs.Lists.{allOf}
+use Rattle.grammar.specs.Words.{rowWord, opWord, openWord, lockedWord, zeroByte, Alphabet, Edition, numberCount, sixFor}
 use Rattle.grammar.specs.Print.{Line, rowLine, recordLine, outside}
 
 unfoldable pub numeral : ℕ → (ℕ → ℕ) → ℕ → List ℕ → ℕ
@@ -91,8 +92,8 @@ rowOf e (lock ∷ vector ∷ f ∷ fs) = outside
 abbrev pub recordIn : Edition → List (List ℕ) → Line
 recordIn e [] = outside
 recordIn e (name ∷ fs) =
-    cond (isName name (e .operations) && eqb (length fs) (e .numbers) && allOf isNumber fs)
-    (recordLine (numberNamed name (e .operations) ∷ map numberOf fs))
+    cond (isName name (e .operations) && eqb (length fs) (numberCount e) && allOf isNumber fs)
+    (recordLine (numberNamed name (e .operations) ∷ sixFor e (numberNamed name (e .operations)) 0 (map numberOf fs)))
     outside
 
 unfoldable pub lineOf : Edition → List (List ℕ) → Line

@@ -1,9 +1,9 @@
--- The lines of a text and what they hold (01, "Text" and "Who can cause a refusal"; 02, request 5, for the editions).
+-- The lines of a text and what they hold (01, "Text" and "Who can cause a refusal"; 02, requests 5 and 11, for the editions).
 --   isEmpty bs            there is no byte
 --   linesOf e ps          the lines of a text cut at LF, read by the edition e;   linesFrom e text   those of a text, or of the rest of one
---   headed text           the first line is edition 2's header
+--   headedBy header text  the first line is that header
 --   Opening, opening text what the first line says: the edition of the text, and where and with which number its first row or record line begins
---   headedOpening, bareOpening   the two openings: of edition 2, after its header, and of edition 1, at once
+--   headedOpening, bareOpening   the two openings: of an edition after its header, and of edition 1, at once
 --   linesIn text          the row lines and record lines of a text
 --   firstBad later n ls   the number of the first bad line, counted on from n, or 0 where there is none
 --   rowsIn, wordsIn       the rows and the record words of lines
@@ -14,7 +14,7 @@ use Prim.Native.Nat.{ℕ, suc}
 use lib.ListN.{length, take, drop}
 use Rattle.checks.specs.Table.{Table}
 use Rattle.grammar.specs.Lists.{same}
-use Rattle.grammar.specs.Words.{lf, tab, Edition, edition1, edition2, header2}
+use Rattle.grammar.specs.Words.{lf, tab, Edition, edition1, edition2, edition3, header2, header3}
 use Rattle.grammar.specs.Print.{LineRow, Line, rowLine, recordLine, outside}
 use Rattle.grammar.specs.Cut.{pieces}
 use Rattle.grammar.specs.Line.{lineOf}
@@ -37,13 +37,13 @@ pub record Opening : Type 0 where
   pub at : ℕ
   pub first : ℕ
 
--- "A text whose first line is `edition`, tab, `2`" (02, request 5), with its LF
-unfoldable pub headed : List ℕ → Bool
-headed text = same (take (length header2) text) header2
+-- "A text whose first line is `edition`, tab, `2`" (02, request 5), with its LF; the same of `3`
+unfoldable pub headedBy : List ℕ → List ℕ → Bool
+headedBy header text = same (take (length header) text) header
 
--- of edition 2: its header counts as line 1
-abbrev pub headedOpening : Opening
-headedOpening = record { edition = edition2; at = length header2; first = 2 }
+-- the header counts as line 1
+abbrev pub headedOpening : Edition → List ℕ → Opening
+headedOpening e header = record { edition = e; at = length header; first = 2 }
 
 -- of edition 1: there is no header
 abbrev pub bareOpening : Opening
@@ -51,7 +51,7 @@ bareOpening = record { edition = edition1; at = 0; first = 1 }
 
 -- "A text without that line keeps the three letters." "Any other edition number is a line outside the grammar": of edition 1. (02, request 5)
 unfoldable pub opening : List ℕ → Opening
-opening text = cond (headed text) headedOpening bareOpening
+opening text = cond (headedBy header2 text) (headedOpening edition2 header2) (cond (headedBy header3 text) (headedOpening edition3 header3) bareOpening)
 
 -- Whoever unfolds the lines unfolds the opening with them.
 unfoldable pub linesIn : List ℕ → List Line

@@ -1,5 +1,4 @@
 -- Tests of lists, and a list put at the start of another.
---   allOf p l      every element passes the test p
 --   isIn b l       the byte b stands in l
 --   same a b       the lists are equal, element by element
 --   filled new old  new, and after it what old has there
@@ -8,10 +7,6 @@ use mathlib.Core.List.{List, [], _∷_, _++_}
 use Prim.Native.Nat.{ℕ}
 use lib.Dec.{eqb}
 use lib.ListN.{length, drop}
-
-unfoldable pub allOf : {A : Type 0} → (A → Bool) → List A → Bool
-allOf p [] = true
-allOf p (a ∷ l) = p a && allOf p l
 
 abbrev pub isIn : ℕ → List ℕ → Bool
 isIn b [] = false

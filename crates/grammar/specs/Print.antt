@@ -1,4 +1,4 @@
--- The text of a table (01, "Text").
+-- The text of a table (01, "Text"; 02, request 11).
 --   digits f n, decimal n   a number in decimal, of at most f digits, and of as many as it has
 --   letter m v        the letter of a bit, from its mask bit and its value bit;   lettersOf w m v   of the lowest w bits, highest first
 --   LineRow           a row as its line tells it: lock and vector
@@ -17,7 +17,7 @@ use Rattle.vectors.specs.Row.{Row}
 use Rattle.operations.specs.Record.{kindIn}
 use Rattle.checks.specs.Table.{Table, rowAt, startOf, recordCount, recordOf}
 use Rattle.bits.specs.Counted.{listed}
-use Rattle.grammar.specs.Words.{lf, tab, rowWord, opWord, lockWord, zeroByte, letter0, letter1, letterX}
+use Rattle.grammar.specs.Words.{lf, tab, rowWord, opWord, lockWord, zeroByte, letter0, letter1, letterX, header3}
 
 -- "A number is printed by recursion: its leading digits, then its last digit." The first argument bounds the count of digits.
 unfoldable pub digits : ℕ → ℕ → List ℕ
@@ -45,7 +45,7 @@ pub data Line : Type 0 where
   recordLine : List ℕ → Line
   outside : Line
 
--- "`row`, `open` or `locked`, 1 to 32 letters"; "`op`, the operation's name as above, t, a, b, p"
+-- "`row`, `open` or `locked`, 1 to 32 letters"; "`op`, the operation's name as above, t, a, b, p", and the sixth word (02, request 11)
 unfoldable pub fieldsOf : Line → List (List ℕ)
 fieldsOf (rowLine r) = rowWord ∷ lockWord (r .lock) ∷ lettersOf (r .vector .width) (r .vector .mask) (r .vector .value) ∷ []
 fieldsOf (recordLine words) = opWord ∷ kindIn words .name ∷ map decimal (drop 1 words)
@@ -77,5 +77,6 @@ recordLines t = listed (λ i. recordLine (recordOf t i)) 0 (recordCount t)
 unfoldable pub tableLines : Table → List Line
 tableLines t = rowLines t ++ recordLines t
 
+-- "the writer prints that with its header" (02, request 11)
 unfoldable pub textOf : Table → List ℕ
-textOf t = linesText (tableLines t)
+textOf t = header3 ++ linesText (tableLines t)

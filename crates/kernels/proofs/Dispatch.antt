@@ -11,7 +11,8 @@ use lib.Dec.{T, eqb, eqb→eq}
 use Rattle.bits.proofs.Bools.{T-left, T-right, T-not-not}
 use Rattle.vectors.specs.Row.{Row, row}
 use Rattle.operations.specs.Kind.{Use, unused, asks, Rule, Kind, sameWidth, sameWidths, comparedWidths}
-use Rattle.operations.specs.Record.{misused, operands}
+use Rattle.operations.specs.Record.{operands}
+use Rattle.operations.specs.Faults.{misused}
 use Rattle.operations.specs.Kinds.{kindOf}
 use Rattle.operations.specs.Result.{widthsOf, resultOf, Ready}
 
@@ -33,7 +34,7 @@ zero-left n (suc m) h r =
 
 -- ---- an arm: a kind's operands as its kernel names them
 
--- what the dispatch is given: the target's width, the parameter, and the rows that the words a, b and p would name
+-- what the dispatch is given: the target's width, the parameter, and the rows that the words a, b and the sixth would name
 pub record Given : Type 0 where
   pub kind : ℕ
   pub wt : ℕ
@@ -41,12 +42,12 @@ pub record Given : Type 0 where
   pub ra : Row
   pub rb : Row
   pub rc : Row
-  pub ready : Ready (kindOf kind) wt p (operands (kindOf kind) ra rb rc)
+  pub ready : Ready (kindOf kind) wt p (operands (kindOf kind) ra rb (rc ∷ []))
 
 -- a kernel of kind k that is called with width w, parameter q and these rows has what it asks for, and its result is the one that is due
 pub record Arm (g : Given) (k : Kind) (w q : ℕ) (rows : List Row) : Type 0 where
   pub asks : Ready k w q rows
-  pub gives : resultOf k w q rows ≡ resultOf (kindOf (g .kind)) (g .wt) (g .p) (operands (kindOf (g .kind)) (g .ra) (g .rb) (g .rc))
+  pub gives : resultOf k w q rows ≡ resultOf (kindOf (g .kind)) (g .wt) (g .p) (operands (kindOf (g .kind)) (g .ra) (g .rb) (g .rc ∷ []))
 
 -- the shapes that several kinds have: one operand of the target's width, two of them, and two of one width with a target of width 1
 abbrev pub SameRow : Given → Kind → ℕ → Type 0
@@ -62,19 +63,19 @@ module _ (k : Kind) (n : ℕ) (own : kindOf n ≡ k) (g : Given) (e : g .kind �
   is-kind : kindOf (g .kind) ≡ k
   is-kind = ap kindOf e ∙ own
 
-  pub ready-of : Ready k (g .wt) (g .p) (operands k (g .ra) (g .rb) (g .rc))
-  ready-of = subst (λ (j : Kind). Ready j (g .wt) (g .p) (operands j (g .ra) (g .rb) (g .rc))) is-kind (g .ready)
+  pub ready-of : Ready k (g .wt) (g .p) (operands k (g .ra) (g .rb) (g .rc ∷ []))
+  ready-of = subst (λ (j : Kind). Ready j (g .wt) (g .p) (operands j (g .ra) (g .rb) (g .rc ∷ []))) is-kind (g .ready)
 
-  pub result-of : resultOf k (g .wt) (g .p) (operands k (g .ra) (g .rb) (g .rc)) ≡ resultOf (kindOf (g .kind)) (g .wt) (g .p) (operands (kindOf (g .kind)) (g .ra) (g .rb) (g .rc))
-  result-of = ap (λ (j : Kind). resultOf j (g .wt) (g .p) (operands j (g .ra) (g .rb) (g .rc))) (sym is-kind)
+  pub result-of : resultOf k (g .wt) (g .p) (operands k (g .ra) (g .rb) (g .rc ∷ [])) ≡ resultOf (kindOf (g .kind)) (g .wt) (g .p) (operands (kindOf (g .kind)) (g .ra) (g .rb) (g .rc ∷ []))
+  result-of = ap (λ (j : Kind). resultOf j (g .wt) (g .p) (operands j (g .ra) (g .rb) (g .rc ∷ []))) (sym is-kind)
 
   -- the same width, parameter and rows under other names
-  pub arm : {w q : ℕ} {rows : List Row} → g .wt ≡ w → g .p ≡ q → operands k (g .ra) (g .rb) (g .rc) ≡ rows → Arm g k w q rows
+  pub arm : {w q : ℕ} {rows : List Row} → g .wt ≡ w → g .p ≡ q → operands k (g .ra) (g .rb) (g .rc ∷ []) ≡ rows → Arm g k w q rows
   arm {w} {q} {rows} a b c =
       record {
         asks = subst (λ (l : List Row). Ready k w q l) c
-            (subst (λ (x : ℕ). Ready k w x (operands k (g .ra) (g .rb) (g .rc))) b
-            (subst (λ (x : ℕ). Ready k x (g .p) (operands k (g .ra) (g .rb) (g .rc))) a ready-of));
+            (subst (λ (x : ℕ). Ready k w x (operands k (g .ra) (g .rb) (g .rc ∷ []))) b
+            (subst (λ (x : ℕ). Ready k x (g .p) (operands k (g .ra) (g .rb) (g .rc ∷ []))) a ready-of));
         gives = sym (λ ι. resultOf k (a ι) (b ι) (c ι)) ∙ result-of;
       }
 
@@ -83,7 +84,7 @@ module _ (k : Kind) (n : ℕ) (own : kindOf n ≡ k) (g : Given) (e : g .kind �
   none u = eqb→eq (g .p) 0 (T-not-not (eqb (g .p) 0) (subst (λ (v : Use). T (not (misused v (g .p)))) u (ready-of .parameter)))
 
   -- what the kind's rule says of the operands' widths
-  pub rule : (F : Rule) (rows : List Row) → k .rule ≡ F → operands k (g .ra) (g .rb) (g .rc) ≡ rows → T (asks F (g .wt) (widthsOf rows) (g .p))
+  pub rule : (F : Rule) (rows : List Row) → k .rule ≡ F → operands k (g .ra) (g .rb) (g .rc ∷ []) ≡ rows → T (asks F (g .wt) (widthsOf rows) (g .p))
   rule F rows f o = subst₂ (λ (G : Rule) (l : List Row). T (asks G (g .wt) (widthsOf l) (g .p))) f o (ready-of .fits)
 
   same : (v w : ℕ) → T (eqb v w) → w ≡ v
@@ -96,17 +97,17 @@ module _ (k : Kind) (n : ℕ) (own : kindOf n ≡ k) (g : Given) (e : g .kind �
   )
 
   -- one operand of the target's width
-  pub one-row : k .rule ≡ sameWidth → operands k (g .ra) (g .rb) (g .rc) ≡ g .ra ∷ [] → operands k (g .ra) (g .rb) (g .rc) ≡ row (g .wt) (g .ra .mask) (g .ra .value) ∷ []
+  pub one-row : k .rule ≡ sameWidth → operands k (g .ra) (g .rb) (g .rc ∷ []) ≡ g .ra ∷ [] → operands k (g .ra) (g .rb) (g .rc ∷ []) ≡ row (g .wt) (g .ra .mask) (g .ra .value) ∷ []
   one-row f o = o ∙ (λ ι. row (same (g .wt) (g .ra .width) (rule sameWidth (g .ra ∷ []) f o) ι) (g .ra .mask) (g .ra .value) ∷ [])
 
   -- two of them
-  pub two-rows : k .rule ≡ sameWidths → k .use-p ≡ unused → operands k (g .ra) (g .rb) (g .rc) ≡ g .ra ∷ g .rb ∷ [] → SameRows g k
+  pub two-rows : k .rule ≡ sameWidths → k .use-p ≡ unused → operands k (g .ra) (g .rb) (g .rc ∷ []) ≡ g .ra ∷ g .rb ∷ [] → SameRows g k
   two-rows f u o =
       let (a, b) = both-same (rule sameWidths (g .ra ∷ g .rb ∷ []) f o) in
       arm refl (none u) (o ∙ (λ ι. row (a ι) (g .ra .mask) (g .ra .value) ∷ row (b ι) (g .rb .mask) (g .rb .value) ∷ []))
 
   -- two of one width, and a target of width 1
-  pub compared-rows : k .rule ≡ comparedWidths → k .use-p ≡ unused → operands k (g .ra) (g .rb) (g .rc) ≡ g .ra ∷ g .rb ∷ [] → ComparedRows g k
+  pub compared-rows : k .rule ≡ comparedWidths → k .use-p ≡ unused → operands k (g .ra) (g .rb) (g .rc ∷ []) ≡ g .ra ∷ g .rb ∷ [] → ComparedRows g k
   compared-rows f u o =
       let t = rule comparedWidths (g .ra ∷ g .rb ∷ []) f o in
       let w = eqb→eq (g .wt) 1 (T-right (eqb (g .ra .width) (g .rb .width)) (eqb (g .wt) 1) t) in

@@ -99,18 +99,12 @@ pub arm-slt : (g : Given) → g .kind ≡ 19 → ComparedRows g opSlt
 unfolding kindOf
 arm-slt g e = compared-rows opSlt 19 refl g e refl refl refl
 
--- the parameter of ite is a row, so its number counts for nothing
 pub arm-ite : (g : Given) → g .kind ≡ 20 → Arm g opIte (g .wt) 0 (row (g .wt) (g .ra .mask) (g .ra .value) ∷ row (g .wt) (g .rb .mask) (g .rb .value) ∷ g .rc ∷ [])
-unfolding kindOf resultOf
+unfolding kindOf
 arm-ite g e =
     let t = rule opIte 20 refl g e chosenWidths (g .ra ∷ g .rb ∷ g .rc ∷ []) refl refl in
     let (a, b) = both-same opIte 20 refl g e (T-left (eqb (g .wt) (g .ra .width) && eqb (g .wt) (g .rb .width)) (eqb (g .rc .width) 1) t) in
-    let A = arm opIte 20 refl g e refl refl (λ ι. row (a ι) (g .ra .mask) (g .ra .value) ∷ row (b ι) (g .rb .mask) (g .rb .value) ∷ g .rc ∷ []) in
-    let R = A .asks in
-    record {
-      asks = record { count = R .count; formed = R .formed; wide = R .wide; widths = R .widths; fits = R .fits; parameter = tt };
-      gives = A .gives;
-    }
+    arm opIte 20 refl g e refl (none opIte 20 refl g e refl) (λ ι. row (a ι) (g .ra .mask) (g .ra .value) ∷ row (b ι) (g .rb .mask) (g .rb .value) ∷ g .rc ∷ [])
 
 -- ---- the wide products: one kernel over two signs
 
@@ -118,7 +112,7 @@ pub record WideArm (g : Given) (sa sb : Bool) : Type 0 where
   pub first : Factor (g .wt) (g .ra)
   pub second : Factor (g .wt) (g .rb)
   pub gives : best (g .wt) (wideNumber sa sb (g .wt) (g .ra .width ∷ g .rb .width ∷ [])) (g .ra ∷ g .rb ∷ [])
-      ≡ resultOf (kindOf (g .kind)) (g .wt) (g .p) (operands (kindOf (g .kind)) (g .ra) (g .rb) (g .rc))
+      ≡ resultOf (kindOf (g .kind)) (g .wt) (g .p) (operands (kindOf (g .kind)) (g .ra) (g .rb) (g .rc ∷ []))
 
 arm-wide : (n : ℕ) (name : List ℕ) (sa sb : Bool) → kindOf n ≡ wideKind n name sa sb → (g : Given) → g .kind ≡ n → WideArm g sa sb
 unfolding resultOf

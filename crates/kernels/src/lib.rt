@@ -1,4 +1,4 @@
-// From a kind to its kernel, over independent operands.
+// From a kind without cells to its kernel, over independent operands.
 use logic::choice;
 use logic::comparison;
 use logic::logical;
@@ -6,10 +6,13 @@ use logic::movement;
 use vectors::Vector;
 use wide_products::wide_product;
 ghost use mathlib.Core.Path.{_≡_};
+ghost use mathlib.Core.Bool.{not};
+ghost use mathlib.Core.List.{[], _∷_};
 ghost use Prim.Native.Nat.{_≤_};
 ghost use lib.Dec.{T};
 ghost use Rattle.bits.specs.Limits.{widthLimit};
 ghost use Rattle.vectors.specs.Row.{row};
+ghost use Rattle.operations.specs.Kind.{isBase};
 ghost use Rattle.operations.specs.Kinds.{isKind, kindOf};
 ghost use Rattle.operations.specs.Result.{resultOf, Ready};
 ghost use Rattle.operations.specs.Record.{operands};
@@ -29,8 +32,8 @@ pub fn apply(
     vc: u32,
     p: u32,
 ) -> Vector
-    requires { ⌜ T (isKind kind) × (wt ≤ widthLimit) × (wa ≤ widthLimit) × Ready (kindOf kind) wt p (operands (kindOf kind) (row wa ma va) (row wb mb vb) (row 1 mc vc)) ⌝ }
-    ensures { λ r. ⌜ row wt (r .mask) (r .value) ≡ resultOf (kindOf kind) wt p (operands (kindOf kind) (row wa ma va) (row wb mb vb) (row 1 mc vc)) ⌝ }
+    requires { ⌜ T (isKind kind) × T (not (isBase (kindOf kind .use-c))) × (wt ≤ widthLimit) × (wa ≤ widthLimit) × Ready (kindOf kind) wt p (operands (kindOf kind) (row wa ma va) (row wb mb vb) (row 1 mc vc ∷ [])) ⌝ }
+    ensures { λ r. ⌜ row wt (r .mask) (r .value) ≡ resultOf (kindOf kind) wt p (operands (kindOf kind) (row wa ma va) (row wb mb vb) (row 1 mc vc ∷ [])) ⌝ }
 {
     match kind {
         1 => logical::not(wt, ma, va),

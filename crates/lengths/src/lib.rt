@@ -1,4 +1,4 @@
-// The bytes that a line of a text has, counted without printing it (01, "Text"; 02, request 1).
+// The bytes that a line of a text has, counted without printing it (01, "Text"; 02, requests 1 and 11).
 ghost use mathlib.Core.Path.{_≡_};
 ghost use Prim.Native.Nat.{ℕ};
 ghost use lib.Dec.{T};
@@ -38,11 +38,19 @@ pub fn record_length(r: Record) -> usize
     requires { ⌜ T (isKind (r .kind)) ⌝ }
     ensures { λ n. ⌜ n ≡ length (lineText (recordLine (wordsOf r))) ⌝ }
 {
-    let Record { kind, t, a, b, p } = r;
+    let Record {
+        kind,
+        t,
+        a,
+        b,
+        p,
+        c,
+    } = r;
     let name = name_len(kind as usize);
     let t_digits = digit_count(t as usize);
     let a_digits = digit_count(a as usize);
     let b_digits = digit_count(b as usize);
     let p_digits = digit_count(p as usize);
-    b"op\t\t\t\t\t\n".len() + name + t_digits + a_digits + b_digits + p_digits
+    let c_digits = digit_count(c as usize);
+    b"op\t\t\t\t\t\t\n".len() + name + t_digits + a_digits + b_digits + p_digits + c_digits
 }

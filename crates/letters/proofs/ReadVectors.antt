@@ -15,7 +15,8 @@ use lib.Seq.{take-suc, drop-cons, take-all, drop-length}
 use Rattle.bits.proofs.Bits.{digit-lt}
 use Rattle.vectors.specs.Row.{Row, row}
 use Rattle.bits.specs.Limits.{widthLimit}
-use Rattle.grammar.specs.Lists.{allOf, isIn}
+use Rattle.grammar.specs.Lists.{isIn}
+use Rattle.vectors.specs.Lists.{allOf}
 use Rattle.grammar.specs.Words.{Alphabet}
 use Rattle.grammar.specs.Line.{numeral, maskBit, valueBit, isLetter, isVector, vectorOf}
 use Rattle.grammar.proofs.Tests.{allOf-append, all-at, all-one, all-none}

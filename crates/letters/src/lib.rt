@@ -1,4 +1,4 @@
-// The editions of the text by their letters, and the vector that a field of letters tells (01, "Text"; 02, request 5).
+// The editions of the text by their letters, and the vector that a field of letters tells (01, "Text"; 02, requests 5 and 11).
 ghost use mathlib.Core.Path.{_≡_};
 ghost use Rattle.grammar.specs.Lists.{isIn};
 ghost use Rattle.grammar.specs.Line.{isLetter, maskBit, valueBit, isVector, vectorOf};
@@ -11,12 +11,24 @@ const WIDTH_LIMIT: usize = checks::limits::WIDTH_LIMIT as usize;
 pub enum Edition {
     First,
     Second,
+    Third,
 }
 
 // What a field tells where it stands for a vector.
 pub enum VectorField {
     Vector { width: u32, mask: u32, value: u32 },
     Bad,
+}
+
+// Is the edition older than edition 3?
+pub fn is_older(e: Edition) -> bool
+    ensures { λ r. ⌜ r ≡ editionModel e .older ⌝ }
+{
+    match e {
+        Edition::First => true,
+        Edition::Second => true,
+        Edition::Third => false,
+    }
 }
 
 // Is `b` one of the letters?
@@ -40,6 +52,7 @@ fn is_zero(e: Edition, b: u8) -> bool
     match e {
         Edition::First => is_among(b, b"0"),
         Edition::Second => is_among(b, b"0L"),
+        Edition::Third => is_among(b, b"0"),
     }
 }
 
@@ -50,6 +63,7 @@ fn is_one(e: Edition, b: u8) -> bool
     match e {
         Edition::First => is_among(b, b"1"),
         Edition::Second => is_among(b, b"1H"),
+        Edition::Third => is_among(b, b"1"),
     }
 }
 
@@ -60,6 +74,7 @@ fn is_unknown(e: Edition, b: u8) -> bool
     match e {
         Edition::First => is_among(b, b"X"),
         Edition::Second => is_among(b, b"UXZW-"),
+        Edition::Third => is_among(b, b"X"),
     }
 }
 

@@ -1,8 +1,9 @@
 -- The search for a name. Assumes nothing.
 --   named              what a list of kinds says of a name
 --   kind-here, kind-later, kind-none   the ways out of the search
---   all-kinds          the first of all kinds, as many as there are
-use mathlib.Core.Path.{_≡_, sym, ap, _∙_}
+--   all-kinds          the first of all kinds, as many as there are;   all-few   there are no fewer
+--   named-known        the number of a name is a kind's;   row-use, other-use   the code for a word that is a row, and any other
+use mathlib.Core.Path.{_≡_, refl, sym, ap, _∙_, subst}
 use mathlib.Core.Bool.{Bool, true, false, cond, _&&_, _||_}
 use mathlib.Core.List.{List, _∷_}
 use mathlib.Core.Option.{Option, some, none}
@@ -14,12 +15,16 @@ use lib.ListN.{length, getD, take, drop, drop-of-length-le}
 use lib.Seq.{drop-cons, getD-take, length-take-le, take-all}
 use Rattle.bits.specs.Below.{allBelow}
 use Rattle.bits.proofs.Bools.{T-left, T-right}
-use Rattle.operations.specs.Kind.{Kind}
-use Rattle.operations.specs.Kinds.{kinds, kindCount, opNone, kindOf}
+use Rattle.operations.specs.Kind.{Use, asRow, asNumber, asCount, asBase, unused, isRow, Kind}
+use Rattle.operations.specs.Encoding.{useCode}
+use Rattle.operations.specs.Kinds.{kinds, kindCount, opNone, isKind, kindOf}
 use Rattle.operations.proofs.Lookup.{kind-test, below-kind}
+use Rattle.vectors.specs.Lists.{allOf}
 use Rattle.grammar.specs.Lists.{same}
+use Rattle.grammar.specs.Words.{olderKinds}
 use Rattle.grammar.specs.Line.{isName, numberNamed}
 use Rattle.grammar.proofs.Tests.{same→eq}
+use Rattle.grammar.proofs.Names.{named as by-name}
 use Rattle.letters.specs.Reads.{reading}
 
 -- the kind's place in the list
@@ -73,6 +78,40 @@ module _ (f : List ℕ) (n k : ℕ) (most : n ≤ kindCount) where
   kind-none h = ap (named f) (drop-of-length-le ks {i = k} (omega (arith, length-ks)))
 
 -- as many as there are, are all
-pub all-kinds : (n : ℕ) → kindCount ≡ n → take n kinds ≡ kinds
+pub all-kinds : take 26 kinds ≡ kinds
 unfolding kindCount
-all-kinds n e = take-all n kinds (omega arith)
+all-kinds = take-all 26 kinds (omega arith)
+
+pub all-few : 26 ≤ kindCount
+unfolding kindCount
+all-few = omega arith
+
+-- ---- the number that a name finds is a kind's
+
+abbrev isNumbered : Kind → Bool
+isNumbered k = isKind (k .number)
+
+older-numbered : T (allOf isNumbered (take olderKinds kinds))
+unfolding allOf isKind
+older-numbered = tt
+
+pub named-known : (f : List ℕ) (k : ℕ) → T (isName f (take olderKinds kinds)) → k ≡ numberNamed f (take olderKinds kinds) → T (isKind k)
+named-known f k t e =
+    let h = by-name isNumbered f (take olderKinds kinds) t older-numbered in
+    subst (λ (n : ℕ). T (isKind n)) (h .number-is ∙ sym e) (h .passes)
+
+-- ---- the use of a word, by its code
+
+pub row-use : (u : Use) (x : ℕ) → x ≡ useCode u → x ≡ 1 → isRow u ≡ true
+row-use asRow x e h = refl
+row-use asNumber x e h = absurd (omega arith)
+row-use asCount x e h = absurd (omega arith)
+row-use asBase x e h = absurd (omega arith)
+row-use unused x e h = absurd (omega arith)
+
+pub other-use : (u : Use) (x : ℕ) → x ≡ useCode u → (x ≡ 1 → ⊥) → isRow u ≡ false
+other-use asRow x e h = absurd (h e)
+other-use asNumber x e h = refl
+other-use asCount x e h = refl
+other-use asBase x e h = refl
+other-use unused x e h = refl

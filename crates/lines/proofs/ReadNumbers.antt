@@ -12,7 +12,7 @@ use lib.Dec.{T}
 use lib.ListN.{length, getD, take, drop}
 use lib.Seq.{take-suc, drop-cons, take-all, drop-length}
 use Rattle.grammar.specs.Limits.{numberLimit}
-use Rattle.grammar.specs.Lists.{allOf}
+use Rattle.vectors.specs.Lists.{allOf}
 use Rattle.grammar.specs.Line.{numeral, isDigit, leadingZero, isNumber, numberOf}
 use Rattle.grammar.proofs.Tests.{ne→neqb, neqb→ne, allOf-append, all-at, all-one, all-none}
 use Rattle.grammar.proofs.Decimals.{digitOf}

@@ -5,4 +5,5 @@ pub mod fields; // fields.rt: the number that a field tells
 pub mod limits; // limits.rt: numbers that 01 sets
 pub mod line; // line.rt: what a line tells
 pub mod opening; // opening.rt: what the first line says
+pub mod records; // records.rt: the record that the fields of a record line tell
 pub mod words; // words.rt: words compared

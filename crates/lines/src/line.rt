@@ -1,21 +1,24 @@
-// What a line of a text tells, by its fields (01, "Text").
+// What a line of a text tells, by its fields (01, "Text"; 02, request 11).
 ghost use mathlib.Core.Path.{_≡_};
 ghost use mathlib.Core.List.{[], _∷_};
+ghost use lib.ListN.{length, drop};
 ghost use Rattle.grammar.specs.Words.{tab};
 ghost use Rattle.grammar.specs.Cut.{pieces};
 ghost use Rattle.grammar.specs.Line.{rowOf, recordIn, lineOf};
 ghost use Rattle.letters.specs.Model.{editionModel};
-ghost use Rattle.lines.specs.Model.{lineModel};
+ghost use Rattle.lines.specs.Model.{lineModel, recordModel, lineTold};
 use crate::cut::count_parts;
 use crate::cut::part;
 use crate::fields::NumberField;
-use crate::fields::number;
+use crate::records::RecordField;
+use crate::records::older_record;
+use crate::records::third_record;
 use crate::words::is_word;
-use crate::words::kind_of;
 use crate::words::lock_of;
 use grammar::TAB;
 use letters::Edition;
 use letters::VectorField;
+use letters::is_older;
 use letters::vector;
 use operations::RECORD_WORDS;
 use operations::Record;
@@ -40,49 +43,37 @@ fn row_line(e: Edition, lock: &[u8], letters: &[u8]) -> Found
     }
 }
 
-// `op`, the operation's name, t, a, b, p.
-fn record_line(e: Edition, name: &[u8], t: &[u8], a: &[u8], b: &[u8], p: &[u8]) -> Found
-    ensures { λ r.
-        let fields = now (name .entry) ∷ now (t .entry) ∷ now (a .entry) ∷ now (b .entry) ∷ now (p .entry) ∷ [] in
-        ⌜ lineModel r ≡ recordIn (editionModel e) fields ⌝ }
+// The line of a record, or none.
+fn line_of(r: RecordField) -> Found
+    ensures { λ l. ⌜ lineModel l ≡ lineTold (recordModel r) ⌝ }
 {
-    let k = match kind_of(e, name) {
-        NumberField::Number(n) => n,
-        NumberField::Bad => {
+    match r {
+        RecordField::Good(x) => Found::Record(x),
+        RecordField::Bad => Found::Outside,
+    }
+}
+
+// `op`, the operation's name, t, a, b, p, and in edition 3 the sixth word: a line of `n` fields.
+fn op_line(e: Edition, l: &[u8], n: usize) -> Found
+    requires { ⌜ n ≡ length (pieces tab (now l)) ⌝ }
+    ensures { λ r. ⌜ lineModel r ≡ recordIn (editionModel e) (drop 1 (pieces tab (now (l .entry)))) ⌝ }
+{
+    let name = part(l, 2, TAB);
+    let t = part(l, 3, TAB);
+    let a = part(l, 4, TAB);
+    let b = part(l, 5, TAB);
+    let p = part(l, 6, TAB);
+    if is_older(e) {
+        if n != RECORD_WORDS {
             return Found::Outside;
         }
-    };
-    let x = match number(t) {
-        NumberField::Number(n) => n,
-        NumberField::Bad => {
-            return Found::Outside;
-        }
-    };
-    let y = match number(a) {
-        NumberField::Number(n) => n,
-        NumberField::Bad => {
-            return Found::Outside;
-        }
-    };
-    let z = match number(b) {
-        NumberField::Number(n) => n,
-        NumberField::Bad => {
-            return Found::Outside;
-        }
-    };
-    let w = match number(p) {
-        NumberField::Number(n) => n,
-        NumberField::Bad => {
-            return Found::Outside;
-        }
-    };
-    Found::Record(Record {
-        kind: k,
-        t: x,
-        a: y,
-        b: z,
-        p: w,
-    })
+        return line_of(older_record(name, t, a, b, p));
+    }
+    if n != RECORD_WORDS + 1 {
+        return Found::Outside;
+    }
+    let c = part(l, 7, TAB);
+    line_of(third_record(name, t, a, b, p, c))
 }
 
 // What a line without its LF tells.
@@ -100,15 +91,7 @@ pub fn line(e: Edition, l: &[u8]) -> Found
         return row_line(e, lock, letters);
     }
     if is_word(head, b"op") {
-        if n != RECORD_WORDS + 1 {
-            return Found::Outside;
-        }
-        let name = part(l, 2, TAB);
-        let t = part(l, 3, TAB);
-        let a = part(l, 4, TAB);
-        let b = part(l, 5, TAB);
-        let p = part(l, 6, TAB);
-        return record_line(e, name, t, a, b, p);
+        return op_line(e, l, n);
     }
     Found::Outside
 }

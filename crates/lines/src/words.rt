@@ -7,11 +7,8 @@ ghost use Rattle.operations.specs.Kinds.{kinds, kindCount, isKind, kindOf};
 ghost use Rattle.grammar.specs.Lists.{same};
 ghost use Rattle.grammar.specs.Line.{isLock, lockOf, isName, numberNamed};
 ghost use Rattle.letters.specs.Reads.{reading};
-ghost use Rattle.letters.specs.Model.{editionModel};
 ghost use Rattle.lines.specs.Model.{numberModel};
 use crate::fields::NumberField;
-use letters::Edition;
-use operations::KINDS;
 use operations::name_byte;
 use operations::name_len;
 
@@ -66,7 +63,7 @@ fn is_name(f: &[u8], k: usize) -> bool
 }
 
 // The kind among the first `n` that a field names.
-fn kind_among(f: &[u8], n: u32) -> NumberField
+pub fn kind_among(f: &[u8], n: u32) -> NumberField
     requires { ⌜ n ≤ kindCount ⌝ }
     ensures { λ r.
         let ks = take n kinds in
@@ -80,13 +77,4 @@ fn kind_among(f: &[u8], n: u32) -> NumberField
         k += 1;
     }
     NumberField::Bad
-}
-
-// The kind that a field names: every edition has all kinds.
-pub fn kind_of(e: Edition, f: &[u8]) -> NumberField
-    ensures { λ r.
-        let ks = editionModel e .operations in
-        ⌜ numberModel r ≡ reading (isName (now (f .entry)) ks) (numberNamed (now (f .entry)) ks) ⌝ }
-{
-    kind_among(f, KINDS)
 }

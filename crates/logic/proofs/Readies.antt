@@ -8,7 +8,7 @@ use lib.Dec.{T, leb→le, nltb→le, eqb→eq}
 use Rattle.vectors.specs.Row.{Row, row}
 use Rattle.operations.specs.Kind.{Use, asNumber, Kind}
 use Rattle.operations.specs.Moves.{opExtract, opConcat, opSext}
-use Rattle.operations.specs.Record.{misused}
+use Rattle.operations.specs.Faults.{misused}
 use Rattle.operations.specs.Limits.{parameterLimit}
 use Rattle.operations.specs.Result.{Ready}
 

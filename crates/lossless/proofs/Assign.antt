@@ -10,8 +10,8 @@ use Rattle.vectors.specs.Choice.{Chosen}
 use Rattle.vectors.proofs.Lists.{all-both}
 use Rattle.vectors.proofs.Rows.{covers-value}
 use Rattle.checks.specs.Table.{State, rowAt}
-use Rattle.tables.specs.Demand.{StateFits, CoversState}
-use Rattle.tables.proofs.Put.{covers-set}
+use Rattle.steps.specs.States.{StateFits, CoversState}
+use Rattle.steps.proofs.Put.{covers-set}
 
 -- each row covers its value
 pub values-cover : (widths : List ℕ) (s : State) → StateFits widths s → CoversState widths s (s .values)

@@ -19,10 +19,10 @@ use Rattle.vectors.proofs.Lists.{all-imp, all-both}
 use Rattle.operations.specs.Record.{Effect, widthAt}
 use Rattle.operations.specs.Result.{widthsOf}
 use Rattle.checks.specs.Table.{State, rowAt}
-use Rattle.tables.specs.Step.{operandRows, operandNumbers, result, Program, after, plainAfter}
-use Rattle.tables.specs.Demand.{StateFits, CoversState}
+use Rattle.steps.specs.Step.{operandRows, operandNumbers, result, Program, after, plainAfter}
+use Rattle.steps.specs.States.{StateFits, CoversState}
 use Rattle.tables.proofs.Fits.{Fit, FitProgram}
-use Rattle.tables.proofs.Put.{covers-set}
+use Rattle.steps.proofs.Put.{covers-set}
 use Rattle.tables.proofs.Steps.{operands-formed, step-targets, step-others, plain-targets, plain-others}
 use Rattle.tables.proofs.Points.{stretch, after-fits}
 use Rattle.lossless.specs.Claims.{Precise}

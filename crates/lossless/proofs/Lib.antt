@@ -5,6 +5,7 @@ pub mod Assign
 pub mod Sharps
 pub mod FreeRows
 pub mod Stretches
+pub mod Records
 pub mod NothingLost
 pub mod Tests
 pub mod Tables

@@ -17,8 +17,8 @@ use Rattle.vectors.specs.Best.{Exact}
 use Rattle.vectors.proofs.Lists.{all-imp, all-both, all-for, pointwise-map}
 use Rattle.operations.specs.Record.{Effect, widthAt}
 use Rattle.checks.specs.Table.{State, rowAt}
-use Rattle.tables.specs.Step.{operandRows, operandNumbers, Program, after, plainAfter}
-use Rattle.tables.specs.Demand.{StateFits, CoversState}
+use Rattle.steps.specs.Step.{operandRows, operandNumbers, Program, after, plainAfter}
+use Rattle.steps.specs.States.{StateFits, CoversState}
 use Rattle.tables.proofs.Fits.{Fit, FitProgram}
 use Rattle.tables.proofs.Steps.{step-after, plain-targets}
 use Rattle.tables.proofs.Points.{stretch, after-fits}

@@ -24,7 +24,7 @@ use Rattle.operations.specs.Kinds.{numbered, kindOf}
 use Rattle.operations.specs.Record.{kindWord, rowsNamed, widthAt}
 use Rattle.checks.specs.Table.{State, rowAt, Table, startOf, recordOf}
 use Rattle.tables.specs.Run.{pointRows, plainRun}
-use Rattle.tables.specs.Demand.{CoversState}
+use Rattle.steps.specs.States.{CoversState}
 use Rattle.lossless.specs.Conditions.{losslessKinds, writes, rowsRead, rowsWritten, ListedKinds, ReadsUnwritten, LosesNothing, LastRecord}
 use Rattle.lossless.specs.Claims.{PreciseRun, SharpRun}
 
@@ -76,12 +76,12 @@ pub nothing-of : (t : Table) (last : ℕ) → T (allBelow last (λ i. numbered (
 nothing-of t last k r w u =
     record { kinds = listed-of t last k; operands-once = distinct-of (rowsRead t 0 last) r; targets-once = distinct-of (rowsWritten t 0 last) w; reads-unwritten = unwritten-of t last u }
 
-pub last-of : (t : Table) (n : ℕ) → T (distinct (rowsNamed (recordOf t n))) → T (apart (rowsRead t 0 n) (rowsNamed (recordOf t n))) → T (absent (writes t n) (rowsWritten t 0 n)) → LastRecord t 0 n
+pub last-of : (t : Table) (n : ℕ) → T (distinct (rowsNamed (recordOf t n))) → T (apart (rowsRead t 0 n) (rowsNamed (recordOf t n))) → T (apart (rowsWritten t 0 n) (writes t n)) → LastRecord t 0 n
 last-of t n d r w =
     record {
       named-once = distinct-of (rowsNamed (recordOf t n)) d;
       unread = apart-of (rowsRead t 0 n) (rowsNamed (recordOf t n)) r;
-      unwritten = missing-of (writes t n) (rowsWritten t 0 n) w;
+      unwritten = apart-of (rowsWritten t 0 n) (writes t n) w;
     }
 
 -- ---- all starts

@@ -12,9 +12,9 @@ use Rattle.bits.specs.Bit.{bit}
 use Rattle.vectors.specs.Row.{Covers, KnownAs}
 use Rattle.operations.specs.Record.{widthAt}
 use Rattle.checks.specs.Table.{State, rowAt, Table, startOf}
-use Rattle.tables.specs.Step.{after}
+use Rattle.steps.specs.Step.{after}
 use Rattle.tables.specs.Run.{programOf, pointRows, plainRun}
-use Rattle.tables.specs.Demand.{CoversState}
+use Rattle.steps.specs.States.{CoversState}
 
 -- "each written row covers precisely the numbers that plain runs from covered starts give it"
 abbrev pub Precise : List ℕ → State → (List ℕ → List ℕ) → State → ℕ → Type 0

@@ -1,6 +1,7 @@
--- When a table loses nothing (02, request 10): the conditions on the records of a stretch, and on one last record after it.
+-- When a table loses nothing (02, request 10): the conditions on the records of a stretch, and on one last record after it, of which "every row of a span
+-- counts as named and read once, and for a store as written too" (02, request 11): the rows named, and the rows written, have the span in them.
 --   losslessKinds               the kinds of the request's list
---   writes t i                  the row that record i writes
+--   writes t i                  the rows that record i writes
 --   rowsRead t first last       the operand rows of the stretch's records, record after record and word after word: a row named twice stands there twice
 --   rowsWritten t first last    the rows that they write, record after record
 --   ListedKinds, OperandsOnce, TargetsOnce, ReadsUnwritten   the conditions on the stretch;   LosesNothing   all of them
@@ -8,28 +9,28 @@
 --   Fitting t                   a table of any size: well-formed rows, and records that passed checks 6 to 9
 use mathlib.Core.List.{List, [], _∷_, List·Memᴰ}
 use Prim.Native.Nat.{ℕ, _-_, _≤_, _<_}
-use Rattle.bits.specs.Counted.{listed, rising}
+use Rattle.bits.specs.Counted.{rising}
 use Rattle.vectors.specs.Lists.{All, Missing, Distinct}
 use Rattle.operations.specs.Kind.{Kind}
 use Rattle.operations.specs.Bitwise.{opCopy, opNot, opAnd, opOr, opXor}
 use Rattle.operations.specs.Moves.{opShl, opLshr, opRotl, opExtract, opConcat, opZext}
-use Rattle.operations.specs.Record.{kindIn, targetWord, rowsNamed}
+use Rattle.operations.specs.Record.{kindIn, rowsNamed, targetRows}
 use Rattle.checks.specs.Table.{Table, startOf, recordCount, recordOf}
 use Rattle.checks.specs.Accepted.{RecordPassed}
-use Rattle.tables.specs.Demand.{StateFits}
+use Rattle.steps.specs.States.{StateFits}
 
 -- "Some designs use only copy, not, and, or, xor, shl, lshr, rotl, extract, concat and zext."
 unfoldable pub losslessKinds : List Kind
 losslessKinds = opCopy ∷ opNot ∷ opAnd ∷ opOr ∷ opXor ∷ opShl ∷ opLshr ∷ opRotl ∷ opExtract ∷ opConcat ∷ opZext ∷ []
 
-abbrev pub writes : Table → ℕ → ℕ
-writes t i = targetWord (recordOf t i)
+abbrev pub writes : Table → ℕ → List ℕ
+writes t i = targetRows (recordOf t i)
 
 abbrev pub rowsRead : Table → ℕ → ℕ → List ℕ
 rowsRead t first last = rising (λ i. rowsNamed (recordOf t i)) first (last - first)
 
 abbrev pub rowsWritten : Table → ℕ → ℕ → List ℕ
-rowsWritten t first last = listed (writes t) first (last - first)
+rowsWritten t first last = rising (writes t) first (last - first)
 
 -- ---- the stretch
 
@@ -67,7 +68,7 @@ Unread t first n = All (λ o. Missing o (rowsRead t first n)) (rowsNamed (record
 
 -- "and writes a row not yet written"
 abbrev pub Unwritten : Table → ℕ → ℕ → Type 0
-Unwritten t first n = Missing (writes t n) (rowsWritten t first n)
+Unwritten t first n = All (λ o. Missing o (rowsWritten t first n)) (writes t n)
 
 pub record LastRecord (t : Table) (first n : ℕ) : Type 0 where
   pub named-once : NamedOnce t n

@@ -1,10 +1,11 @@
 -- The conditions without which the claims fail (02, request 10): for each a table that run accepts, which breaks it alone.
 --   Runs t last        run accepts the table's records up to last, and answers that
 --   ButOperands, ButKinds t last   of these records, all conditions hold but "every row is an operand at most once", or but "use only copy, not, .."
---   Imprecise t last   the first claim is false of some record's target;   Blunt t n   the second is false of the target of record n
+--   Imprecise t last   the first claim is false of what some record writes;   Blunt t n   the second is false of what record n writes
 --   Needed             the tables
 use mathlib.Core.Path.{_≡_}
 use Prim.Native.Nat.{ℕ, suc, _<_}
+use Rattle.vectors.specs.Lists.{All}
 use Rattle.checks.specs.Check.{done}
 use Rattle.checks.specs.Table.{Table}
 use Rattle.tables.specs.Run.{runOf}
@@ -21,10 +22,10 @@ abbrev pub ButKinds : Table → ℕ → Type 0
 ButKinds t last = (ListedKinds t 0 last → ⊥) × OperandsOnce t 0 last × TargetsOnce t 0 last × ReadsUnwritten t 0 last
 
 abbrev pub Imprecise : Table → ℕ → Type 0
-Imprecise t last = (i : ℕ) × (i < last) × (PreciseRun t 0 last (writes t i) → ⊥)
+Imprecise t last = (i : ℕ) × (i < last) × (All (PreciseRun t 0 last) (writes t i) → ⊥)
 
 abbrev pub Blunt : Table → ℕ → Type 0
-Blunt t n = SharpRun t 0 (suc n) (writes t n) → ⊥
+Blunt t n = All (SharpRun t 0 (suc n)) (writes t n) → ⊥
 
 -- operand-twice-in-one: broken by a record that names a row twice.  operand-twice-in-two: by two records, of which none does.  kind-outside: by a kind.
 -- Without these both claims fail, the second though the last record meets its own conditions.

@@ -103,27 +103,31 @@ pub fn values(d: Design) -> [u32; 10] {
 }
 
 // The words of the records.
-pub fn words(d: Design) -> [u32; 20] {
+pub fn words(d: Design) -> [u32; 24] {
     [
         word(d.first.kind),
         word(d.first.t),
         word(d.first.a),
         word(d.first.b),
         word(d.first.p),
+        word(d.first.c),
         word(d.second.kind),
         word(d.second.t),
         word(d.second.a),
         word(d.second.b),
         word(d.second.p),
+        word(d.second.c),
         word(d.third.kind),
         word(d.third.t),
         word(d.third.a),
         word(d.third.b),
         word(d.third.p),
+        word(d.third.c),
         word(d.last.kind),
         word(d.last.t),
         word(d.last.a),
         word(d.last.b),
         word(d.last.p),
+        word(d.last.c),
     ]
 }

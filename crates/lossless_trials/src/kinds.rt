@@ -21,14 +21,13 @@ pub fn second_width(kind: u64, wa: u64) -> u64 {
     }
 }
 
-// The parameter: up to 3 places, a bit of the first operand, the condition's row, or 0.
-pub fn parameter(kind: u64, draw: u64, wa: u64, condition: u64) -> u64
+// The parameter: up to 3 places, a bit of the first operand, or 0.
+pub fn parameter(kind: u64, draw: u64, wa: u64) -> u64
     requires { ⌜ 1 ≤ wa ⌝ }
 {
     match kind {
         5..=8 => draw % 4,
         9 => draw % wa,
-        20 => condition,
         _ => 0,
     }
 }

@@ -5,6 +5,8 @@ use designs::drawn_design;
 use designs::masks;
 use designs::values;
 use designs::words;
+use last::last_cell;
+use last::last_row;
 use oracle::choices::Row;
 use oracle::choices::covers;
 use oracle::choices::row_of;
@@ -19,6 +21,8 @@ use tables::RunAnswer;
 mod designs; // designs.rt: a table of ten rows and four records
 mod draws; // draws.rt: the numbers drawn
 mod kinds; // kinds.rt: what each kind asks
+mod last; // last.rt: what the last record gives
+mod memories; // memories.rt: loads and stores drawn
 mod records; // records.rt: the records drawn
 mod rows; // rows.rt: the rows while records are drawn
 mod runs; // runs.rt: all plain runs
@@ -64,7 +68,7 @@ fn is_precise(d: Design, i: u64, row: Row, numbers: u64) -> bool {
     covered(width_of(width, i), row) == numbers
 }
 
-// Whether the last target's bits are known exactly where all runs agree, and are then what the runs give.
+// Whether a row's bits are known exactly where all runs agree, and are then what the runs give.
 fn is_best(best: Row, row: Row) -> bool {
     row.mask == best.mask && row.value == best.value
 }
@@ -74,7 +78,11 @@ fn match_runs(d: Design, r: Reached, mask: &[u32; 10], value: &[u32; 10]) -> boo
     is_precise(d, 6, row_at(mask, value, 6), r.first)
         && is_precise(d, 7, row_at(mask, value, 7), r.second)
         && is_precise(d, 8, row_at(mask, value, 8), r.third)
-        && is_best(row_of(r.last), row_at(mask, value, d.last.t))
+        && is_best(row_of(r.last), row_at(mask, value, last_row(d, 0)))
+        && is_best(
+            row_of(r.last_cell),
+            row_at(mask, value, last_row(d, last_cell(d))),
+        )
 }
 
 // Whether run and the plain runs agree on the table of this number.

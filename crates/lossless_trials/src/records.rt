@@ -5,6 +5,7 @@ use crate::kinds::drawn_kind;
 use crate::kinds::parameter;
 use crate::kinds::second_width;
 use crate::kinds::target_width;
+use crate::memories::drawn_memory;
 use crate::rows::ROWS;
 use crate::rows::Rows;
 use crate::rows::once_read;
@@ -12,6 +13,8 @@ use crate::rows::once_written;
 use crate::rows::singleton;
 use crate::rows::unread_row;
 use crate::rows::width_of;
+use oracle::shapes::LOAD;
+use oracle::shapes::STORE;
 use oracle::shapes::uses_condition;
 use oracle::shapes::uses_second;
 
@@ -28,6 +31,7 @@ pub struct Record {
     pub a: u64,
     pub b: u64,
     pub p: u64,
+    pub c: u64,
     pub wt: u64,
 }
 
@@ -66,7 +70,7 @@ fn fitting_kind(kind: u64, o: Operands) -> u64 {
 }
 
 // The target: row 6 + k, or for the last record, where row 0 has the width, at times row 0.
-fn drawn_target(table: u64, k: u64, wt: u64, w0: u64) -> u64
+pub fn drawn_target(table: u64, k: u64, wt: u64, w0: u64) -> u64
     requires { ⌜ k < 4 ⌝ }
 {
     if k == 3 && wt == w0 && drawn(table, k, 6, 2) == 0 {
@@ -82,7 +86,7 @@ fn record_of(table: u64, k: u64, rows: Rows, kind: u64, o: Operands) -> Record
     let width = rows.width;
     let wa = width_of(width, o.a);
     let wb = width_of(width, o.b);
-    let p = parameter(kind, drawn(table, k, 4, 4096), wa, o.condition);
+    let p = parameter(kind, drawn(table, k, 4, 4096), wa);
     let wt = target_width(kind, drawn(table, k, 5, 4096), wa, wb, p);
     Record {
         kind: kind,
@@ -90,16 +94,20 @@ fn record_of(table: u64, k: u64, rows: Rows, kind: u64, o: Operands) -> Record
         a: o.a,
         b: if uses_second(kind) { o.b } else { 0 },
         p: p,
+        c: if uses_condition(kind) { o.condition } else { 0 },
         wt: wt,
     }
 }
 
-// Record k on these rows: `not` where a row for its kind is missing, or where it is not the last and its target would be too wide.
+// Record k on these rows: `not` where a row for its kind is missing, or where it is not the last and its target would be too wide. Only the last may have cells.
 pub fn drawn_record(table: u64, k: u64, rows: Rows) -> Record
     requires { ⌜ k < 4 ⌝ }
 {
     let kind = drawn_kind(table, k);
     let o = drawn_operands(table, k, rows, kind);
+    if kind >= LOAD {
+        return drawn_memory(table, rows, kind, record_of(table, k, rows, NOT, o));
+    }
     let r = record_of(table, k, rows, fitting_kind(kind, o), o);
     if k < 3 && r.wt > MOST {
         return record_of(table, k, rows, NOT, o);
@@ -114,12 +122,15 @@ fn rows_read(r: Record) -> u64 {
         set |= singleton(r.b);
     }
     if uses_condition(r.kind) {
-        set |= singleton(r.p);
+        set |= singleton(r.c);
     }
     set
 }
 
-// The rows once a record has run.
+// The rows once a record has run. After the last one only the widths count, and a store leaves those.
 pub fn after(rows: Rows, r: Record) -> Rows {
+    if r.kind == STORE {
+        return rows;
+    }
     once_written(once_read(rows, rows_read(r)), r.t, r.wt)
 }

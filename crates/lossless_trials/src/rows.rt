@@ -88,7 +88,7 @@ pub fn once_written(rows: Rows, row: u64, w: u64) -> Rows {
 }
 
 // Whether a row may be read and has this width (0: any).
-fn suits(rows: Rows, row: u64, w: u64) -> bool
+pub fn suits(rows: Rows, row: u64, w: u64) -> bool
     requires { ⌜ row < 10 ⌝ }
 {
     let width = rows.width;

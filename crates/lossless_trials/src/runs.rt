@@ -4,6 +4,8 @@ ghost use Rattle.oracle.specs.Sizes.{Sized};
 use crate::designs::Design;
 use crate::designs::numbers;
 use crate::draws::remainder;
+use crate::last::last_bits;
+use crate::last::last_cell;
 use crate::records::Record;
 use crate::rows::at;
 use crate::rows::singleton;
@@ -13,16 +15,17 @@ use oracle::choices::Seen;
 use oracle::choices::both;
 use oracle::choices::nothing;
 use oracle::numbers::power;
-use oracle::numbers::word;
 use oracle::plain::plain;
 use oracle::shapes::Shape;
 
-// The numbers that rows 6 to 8 get, as sets (bit x for the number x), and the bits that the last target gets.
+// The numbers that rows 6 to 8 get, as sets (bit x for the number x), and the bits that the last target gets: of a store the first cell of its span, and the
+// last one.
 pub struct Reached {
     pub first: u64,
     pub second: u64,
     pub third: u64,
     pub last: Seen,
+    pub last_cell: Seen,
 }
 
 // A record's kind, widths and parameter.
@@ -47,12 +50,12 @@ fn bits(x: u64, w: u64) -> u64
 }
 
 // The number that a record gives its target.
-fn result(d: Design, r: Record, numbers: [u64; 10]) -> u64 {
+pub fn result(d: Design, r: Record, numbers: [u64; 10]) -> u64 {
     let width = d.width;
     let s = shape(width, r);
     let a = at(r.a);
     let b = at(r.b);
-    let c = at(r.p);
+    let c = at(r.c);
     plain(
         s,
         bits(numbers[a], s.wa),
@@ -70,18 +73,6 @@ fn step(d: Design, r: Record, numbers: [u64; 10]) -> [u64; 10] {
     after
 }
 
-// The bits of the last target's number in one run.
-fn last_bits(d: Design, numbers: [u64; 10]) -> Seen {
-    let width = d.width;
-    let last = d.last;
-    let x = word(result(d, last, numbers));
-    let full = word(power(width_of(width, last.t)) - 1);
-    Seen {
-        zeros: full ^ x,
-        ones: x,
-    }
-}
-
 // What the runs before reach, and the run from this start.
 fn with_run(d: Design, before: Reached, start: u64) -> Reached {
     let first = d.first;
@@ -89,11 +80,13 @@ fn with_run(d: Design, before: Reached, start: u64) -> Reached {
     let third = d.third;
     let end = step(d, third, step(d, second, step(d, first, numbers(d, start))));
     let seen = before.last;
+    let seen_cell = before.last_cell;
     Reached {
         first: before.first | singleton(end[6]),
         second: before.second | singleton(end[7]),
         third: before.third | singleton(end[8]),
-        last: both(seen, last_bits(d, end)),
+        last: both(seen, last_bits(d, end, 0)),
+        last_cell: both(seen_cell, last_bits(d, end, last_cell(d))),
     }
 }
 
@@ -104,6 +97,7 @@ pub fn all_runs(d: Design) -> Reached {
         second: 0,
         third: 0,
         last: nothing(),
+        last_cell: nothing(),
     };
     let mut start: u64 = 0;
     while start < 4096 {

@@ -7,16 +7,17 @@ use Prim.Native.Nat.{ℕ, zero, suc, _+_, _-_, _*_, _/_, _%_, _^_, _<_}
 use native.Mathlib.Nat.{mod-lt, lt-of-lt-of-le, lt-of-le-of-lt}
 use native.Mathlib.Omega.{arith}
 use lib.Dec.{T, ltb, eqb, eqb→eq, leb→le}
-use lib.ListN.{getD}
+use lib.ListN.{getD, drop}
 use lib.Bits.{and-lt, or-lt, xor-lt}
 use lib.Pow.{pow-pos, pow-mono, pow-add, shr-le, ones-sub-lt}
 use lib.Arith.{digits-lt}
 use Rattle.bits.specs.Bit.{bit, digit}
 use Rattle.bits.proofs.Bits.{digit-lt, number-below}
 use Rattle.bits.proofs.Bools.{T-left, T-right}
-use Rattle.vectors.specs.Lists.{All}
+use Rattle.vectors.specs.Lists.{All, allOf}
 use Rattle.vectors.proofs.Lists.{_⨾_}
-use Rattle.operations.specs.Kind.{asks, Kind, first, second, third, joinedWidths}
+use Rattle.operations.specs.Kind.{asks, Kind, first, second, third, joinedWidths, cellWidths}
+use Rattle.operations.specs.Memory.{loadNumber, storeNumber}
 use Rattle.operations.specs.Wide.{wideNumber}
 use Rattle.operations.specs.Kinds.{kinds, kindOf}
 use Rattle.operations.proofs.Lookup.{any-kind}
@@ -65,6 +66,28 @@ joined-below a b v w h g = subst (λ (m : ℕ). a * 2 ^ w + b < m) (sym (pow-add
 wide-below : (sa sb : Bool) (wt p : ℕ) (ws ns : List ℕ) → T (asks joinedWidths wt ws p) → Below ws ns → wideNumber sa sb wt ws ns < 2 ^ wt
 wide-below sa sb wt p ws ns t c = mod-lt _ (pow-pos wt)
 
+-- the data and the cells, and 0 past them, where all widths but that of the address are the target's
+cells-below : (wt : ℕ) (ws ns : List ℕ) → T (allOf (eqb wt) (drop 1 ws)) → Below ws ns → (i : ℕ) → getD ns (suc i) 0 < 2 ^ wt
+unfolding allOf
+cells-below wt [] [] t c i = pow-pos wt
+cells-below wt [] (n ∷ ns) t c i = absurd c
+cells-below wt (w ∷ ws) [] t c i = absurd c
+cells-below wt (w ∷ ws) (n ∷ ns) t c i = go ws ns t (c .1) i
+  where
+    go : (ws ns : List ℕ) → T (allOf (eqb wt) ws) → Below ws ns → (i : ℕ) → getD ns i 0 < 2 ^ wt
+    go [] [] t c i = pow-pos wt
+    go [] (n ∷ ns) t c i = absurd c
+    go (w ∷ ws) [] t c i = absurd c
+    go (w ∷ ws) (n ∷ ns) t c zero = at-width n wt w (T-left (eqb wt w) (allOf (eqb wt) ws) t) (c .0)
+    go (w ∷ ws) (n ∷ ns) t c (suc i) = go ws ns (T-right (eqb wt w) (allOf (eqb wt) ws) t) (c .1) i
+
+load-below : (wt p : ℕ) (ws ns : List ℕ) → T (asks cellWidths wt ws p) → Below ws ns → loadNumber ns < 2 ^ wt
+load-below wt p ws [] t c = pow-pos wt
+load-below wt p ws (x ∷ cells) t c = cells-below wt ws (x ∷ cells) t c x
+
+store-below : (wt p : ℕ) (ws ns : List ℕ) → T (asks cellWidths wt ws p) → Below ws ns → storeNumber p ns < 2 ^ wt
+store-below wt p ws ns t c = cond-below (eqb (first ns) p) (second ns) (third ns) (2 ^ wt) (cells-below wt ws ns t c 0) (cells-below wt ws ns t c 1)
+
 -- ---- every kind, in the order of the list
 
 pub all-bounded : All Bounded kinds
@@ -95,6 +118,8 @@ all-bounded =
     ⨾ wide-below false false
     ⨾ wide-below true true
     ⨾ wide-below true false
+    ⨾ load-below
+    ⨾ store-below
     ⨾ tt
 
 -- the kind that a record's word names

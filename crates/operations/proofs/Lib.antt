@@ -5,6 +5,7 @@ pub mod Lookup
 pub mod Digits
 pub mod Sound
 pub mod Twice
+pub mod Parts
 pub mod TwoRows
 pub mod DoubledKinds
 pub mod Spelling

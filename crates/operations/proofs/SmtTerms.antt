@@ -1,10 +1,10 @@
 -- The plain number of each kind is the number of its SMT-LIB term: at every width that the width rule allows, for all operands. Assumes nothing.
 --   terms-agree, narrow-terms-agree   each term agrees with its kind
---   terms-kinds, terms-serve          the terms are of all the kinds, in order, and serve every parameter that the checks let pass
+--   terms-kinds, terms-serve          the terms are of all kinds without cells, and serve every parameter that the checks let pass
 --   term-agrees, term-kind            of any term listed: it agrees with its kind, and its kind is the one that has that number
---   term-of                           some term is of the kind that has a number
+--   term-of                           some term is of the kind that has a number, unless it has cells
 use mathlib.Core.Path.{_≡_, refl, sym, ap, subst, _∙_}
-use mathlib.Core.Bool.{Bool, true, false, _||_}
+use mathlib.Core.Bool.{Bool, true, false, not, _||_}
 use mathlib.Core.List.{List, [], _∷_, _++_, map, List·Memᴰ, List·Memᴰ·head, List·Memᴰ·tail, List·Memᴰ·append-cases}
 use mathlib.Core.Logic.{inl, inr}
 use Prim.Native.Nat.{ℕ, _+_, _-_, _^_}
@@ -13,9 +13,12 @@ use lib.Dec.{T, eqb, eqb→eq, nltb→le, ltb→lt, leb→le}
 use lib.ListN.{getD, drop}
 use Rattle.vectors.specs.Lists.{All}
 use Rattle.vectors.proofs.Lists.{_⨾_, all-imp, all-member}
-use Rattle.operations.specs.Kind.{Kind}
+use Rattle.bits.specs.Below.{allBelow}
+use Rattle.operations.specs.Kind.{isBase}
 use Rattle.operations.specs.Moves.{opShl, opLshr, opAshr}
-use Rattle.operations.specs.Kinds.{kinds, numbered, isKind, kindOf}
+use Rattle.operations.specs.Kinds.{kinds, kindCount, numbered, isKind, kindOf}
+use Rattle.operations.proofs.Lookup.{kind-test}
+use Rattle.operations.proofs.Sound.{implied}
 use Rattle.operations.specs.Limits.{parameterLimit}
 use Rattle.operations.specs.Bitvector.{bv}
 use Rattle.operations.specs.Terms.{Term, Agrees, always, terms, narrowTerms}
@@ -29,9 +32,9 @@ use Rattle.operations.proofs.SmtRotate.{rotl-is}
 use Rattle.operations.proofs.SmtCompare.{eq-is, ult-is, slt-is, ite-is}
 use Rattle.operations.proofs.SmtOperands.{by-operands, by-same, by-both, by-compared, chosen-widths}
 
-pub terms-kinds : map (λ m. m .kind) terms ≡ kinds
-unfolding terms kinds
-terms-kinds = refl
+terms-kinds : T (allBelow kindCount (λ n. not (not (isBase (kindOf n .use-c))) || numbered n (map (λ m. m .kind) terms)))
+unfolding allBelow kindCount kindOf terms kinds
+terms-kinds = tt
 
 abbrev pub Serving : Term → Type 0
 Serving m = (w p : ℕ) → T (m .serves w p)
@@ -114,6 +117,7 @@ found n (m ∷ ms) g t = choose (eqb (m .kind .number) n) (eqb→eq (m .kind .nu
     choose true e r t = (m, List·Memᴰ·head refl, e tt, g .0)
     choose false e r t = later (r t)
 
-pub term-of : (n : ℕ) → T (isKind n) → Found terms n
-unfolding isKind
-term-of n t = found n terms terms-serve (subst (λ (ks : List Kind). T (numbered n ks)) (sym terms-kinds) t)
+pub term-of : (n : ℕ) → T (isKind n) → T (not (isBase (kindOf n .use-c))) → Found terms n
+term-of n t none =
+    found n terms terms-serve
+    (implied (not (isBase (kindOf n .use-c))) (numbered n (map (λ m. m .kind) terms)) (kind-test (λ n. not (not (isBase (kindOf n .use-c))) || numbered n (map (λ m. m .kind) terms)) terms-kinds n t) none)

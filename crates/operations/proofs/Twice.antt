@@ -9,7 +9,7 @@ use Rattle.bits.proofs.Bools.{T-left, T-right}
 use Rattle.vectors.specs.Lists.{All}
 use Rattle.operations.specs.Kind.{asRow, Kind}
 use Rattle.operations.specs.Kinds.{isKind}
-use Rattle.operations.specs.Record.{kindWord, kindIn, firstWord, secondWord, parameterWord, used, operands, rowsNamed, namedTwice, once, again}
+use Rattle.operations.specs.Record.{kindWord, kindIn, firstWord, secondWord, used, usedLast, operands, namedTwice, once, again}
 use Rattle.operations.specs.Result.{Below}
 use Rattle.operations.proofs.Sound.{first-is-row, second-is-row}
 
@@ -18,15 +18,17 @@ startsTwice [] = false
 startsTwice (a ∷ []) = false
 startsTwice (a ∷ b ∷ l) = eqb a b
 
-both-rows : {A : Type 0} (k : Kind) (a b p : A) → k .use-a ≡ asRow → k .use-b ≡ asRow → operands k a b p ≡ a ∷ b ∷ used (k .use-p) p []
-both-rows k a b p e d = λ ι. used (e ι) a (used (d ι) b (used (k .use-p) p []))
+both-rows : {A : Type 0} (k : Kind) (a b : A) (cs : List A) → k .use-a ≡ asRow → k .use-b ≡ asRow → operands k a b cs ≡ a ∷ b ∷ usedLast (k .use-c) cs
+both-rows k a b cs e d = λ ι. used (e ι) a (used (d ι) b (usedLast (k .use-c) cs))
 
-pub named-starts : (words : List ℕ) → T (isKind (kindWord words)) → T (namedTwice words) → T (startsTwice (rowsNamed words))
-unfolding namedTwice rowsNamed
-named-starts words h t =
+-- whatever rows the sixth word names
+pub named-starts : (words : List ℕ) → T (isKind (kindWord words)) → T (namedTwice words) → (cs : List ℕ)
+    → T (startsTwice (operands (kindIn words) (firstWord words) (secondWord words) cs))
+unfolding namedTwice
+named-starts words h t cs =
     let k = kindIn words in
     let b = second-is-row (kindWord words) h (T-left (k .correlated) (eqb (firstWord words) (secondWord words)) t) in
-    subst (λ (l : List ℕ). T (startsTwice l)) (sym (both-rows k (firstWord words) (secondWord words) (parameterWord words) (first-is-row (kindWord words) h) b))
+    subst (λ (l : List ℕ). T (startsTwice l)) (sym (both-rows k (firstWord words) (secondWord words) cs (first-is-row (kindWord words) h) b))
     (T-right (k .correlated) (eqb (firstWord words) (secondWord words)) t)
 
 -- "a row named twice gives its one number twice"

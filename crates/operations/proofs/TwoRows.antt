@@ -7,7 +7,7 @@ use lib.Dec.{T, eqb, eqb-refl}
 use Rattle.bits.proofs.Bools.{T-and}
 use Rattle.vectors.specs.Row.{row, WellFormed}
 use Rattle.operations.specs.Kind.{Use, Rule, Kind, unused, sameWidths, asks}
-use Rattle.operations.specs.Record.{misused}
+use Rattle.operations.specs.Faults.{misused}
 use Rattle.operations.specs.Result.{arity, Ready}
 
 pub two-ready : (j : Kind) → arity j ≡ 2 → j .rule ≡ sameWidths → j .use-p ≡ unused

@@ -13,9 +13,11 @@ opAdd =
     record {
       number = 13;
       name = bytes "add";
+      use-t = asRow;
       use-a = asRow;
       use-b = asRow;
       use-p = unused;
+      use-c = unused;
       correlated = true;
       rule = sameWidths;
       plain = λ wt ws p ns. (first ns + second ns) % 2 ^ first ws;
@@ -27,9 +29,11 @@ opSub =
     record {
       number = 14;
       name = bytes "sub";
+      use-t = asRow;
       use-a = asRow;
       use-b = asRow;
       use-p = unused;
+      use-c = unused;
       correlated = true;
       rule = sameWidths;
       plain = λ wt ws p ns. (2 ^ first ws + first ns - second ns) % 2 ^ first ws;
@@ -41,9 +45,11 @@ opNeg =
     record {
       number = 15;
       name = bytes "neg";
+      use-t = asRow;
       use-a = asRow;
       use-b = unused;
       use-p = unused;
+      use-c = unused;
       correlated = false;
       rule = sameWidth;
       plain = λ wt ws p ns. (2 ^ first ws - first ns) % 2 ^ first ws;
@@ -55,9 +61,11 @@ opMul =
     record {
       number = 16;
       name = bytes "mul";
+      use-t = asRow;
       use-a = asRow;
       use-b = asRow;
       use-p = unused;
+      use-c = unused;
       correlated = false;
       rule = sameWidths;
       plain = λ wt ws p ns. first ns * second ns % 2 ^ first ws;
@@ -69,9 +77,11 @@ opEq =
     record {
       number = 17;
       name = bytes "eq";
+      use-t = asRow;
       use-a = asRow;
       use-b = asRow;
       use-p = unused;
+      use-c = unused;
       correlated = true;
       rule = comparedWidths;
       plain = λ wt ws p ns. digit (eqb (first ns) (second ns));
@@ -83,9 +93,11 @@ opUlt =
     record {
       number = 18;
       name = bytes "ult";
+      use-t = asRow;
       use-a = asRow;
       use-b = asRow;
       use-p = unused;
+      use-c = unused;
       correlated = true;
       rule = comparedWidths;
       plain = λ wt ws p ns. digit (ltb (first ns) (second ns));
@@ -97,23 +109,27 @@ opSlt =
     record {
       number = 19;
       name = bytes "slt";
+      use-t = asRow;
       use-a = asRow;
       use-b = asRow;
       use-p = unused;
+      use-c = unused;
       correlated = true;
       rule = comparedWidths;
       plain = λ wt ws p ns. digit (ltb (first ns + 2 ^ first ws * bit (second ns) (first ws - 1)) (second ns + 2 ^ first ws * bit (first ns) (first ws - 1)));
     }
 
--- ite: a if row p's number is 1, else b
+-- ite: a if the condition's number is 1, else b; the condition is the sixth word (02, request 11)
 unfoldable pub opIte : Kind
 opIte =
     record {
       number = 20;
       name = bytes "ite";
+      use-t = asRow;
       use-a = asRow;
       use-b = asRow;
-      use-p = asRow;
+      use-p = unused;
+      use-c = asRow;
       correlated = true;
       rule = chosenWidths;
       plain = λ wt ws p ns. cond (eqb (third ns) 1) (first ns) (second ns);

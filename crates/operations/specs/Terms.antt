@@ -3,7 +3,7 @@
 --   always, fitsWidth   the parameters served: all; those below 2 to the power of the width
 --   low s r, amount s p   r cut to the width of s; an amount of five bits more than s
 --   widened signed wt s   s extended to wt bits: by sign_extend where it is signed, else by zero_extend
---   terms            one term for each kind, for every parameter that the checks let pass
+--   terms            one term for each kind but load and store, which SMT-LIB's bit vectors do not have, for every parameter that the checks let pass
 --   narrowTerms      for the shifts the term whose amount has the operand's own width, where the amount fits it
 --   left vs, right vs, condition vs   the first, second and third operand vector
 --   vectors ws ns    the operand vectors, SMT-LIB's of the operands' widths and numbers
@@ -21,7 +21,7 @@ use Rattle.operations.specs.Bitwise.{opCopy, opNot, opAnd, opOr, opXor}
 use Rattle.operations.specs.Moves.{opShl, opLshr, opAshr, opRotl, opExtract, opConcat, opZext, opSext}
 use Rattle.operations.specs.Arithmetic.{opAdd, opSub, opNeg, opMul, opEq, opUlt, opSlt, opIte}
 use Rattle.operations.specs.Wide.{opUmulw, opSmulw, opSumulw}
-use Rattle.operations.specs.Record.{misused}
+use Rattle.operations.specs.Faults.{misused}
 use Rattle.operations.specs.Result.{Below, arity}
 use Rattle.operations.specs.Bitvector.{Bitvector, nat, bv, extract, concat}
 use Rattle.operations.specs.SmtLib.{bvnot, bvand, bvor, bvxor, bvneg, bvadd, bvsub, bvmul, bvshl, bvlshr, bvashr, zero-extend, sign-extend, rotate-left, bveq, bvult, bvslt, bit1, bvite}

@@ -27,9 +27,11 @@ wideKind n name sa sb =
     record {
       number = n;
       name = name;
+      use-t = asRow;
       use-a = asRow;
       use-b = asRow;
       use-p = unused;
+      use-c = unused;
       correlated = false;
       rule = joinedWidths;
       plain = λ wt ws p ns. wideNumber sa sb wt ws ns;

@@ -5,47 +5,61 @@ ghost use mathlib.Core.Path.{_≡_};
 ghost use Prim.Native.Nat.{_<_};
 ghost use lib.Dec.{T, eqb};
 ghost use lib.ListN.{length, getD};
+ghost use Rattle.operations.specs.Kind.{isBase};
 ghost use Rattle.operations.specs.Kinds.{isKind, kindOf};
 ghost use Rattle.operations.specs.Encoding.{digitOf, useCode, ruleCode};
 
-// A record by its words: kind, target row t, operand rows a and b, parameter p.
+// A record by its words: kind, target row t, operand rows a and b, parameter p, and the sixth word c, a base row or the condition.
 pub struct Record {
     pub kind: u32,
     pub t: u32,
     pub a: u32,
     pub b: u32,
     pub p: u32,
+    pub c: u32,
 }
 
 // Words in a record.
-pub const RECORD_WORDS: usize = 5;
+pub const RECORD_WORDS: usize = 6;
 
 // How many kinds there are.
-pub const KINDS: u32 = 24;
+pub const KINDS: u32 = 26;
 
-// What the word b is to each kind: 0 nothing, 1 a row, 2 a number.
-const SECOND: u64 = 0b01_01_01_01_01_01_01_01_00_01_01_00_00_01_00_00_00_00_00_01_01_01_00_00;
+// The kinds that have cells, the last two.
+pub const LOAD: u32 = 24;
+
+pub const STORE: u32 = 25;
+
+// What the word b is to each kind: 0 nothing, 1 a row, 2 a number, 3 of cells: how many, or their base row.
+const SECOND: u64 = 0b01_00_01_01_01_01_01_01_01_01_00_01_01_00_00_01_00_00_00_00_00_01_01_01_00_00;
 
 // The same of the word p.
-const PARAMETER: u64 = 0b00_00_00_01_00_00_00_00_00_00_00_00_00_00_10_10_10_10_10_00_00_00_00_00;
+const PARAMETER: u64 =
+    0b11_11_00_00_00_00_00_00_00_00_00_00_00_00_00_00_10_10_10_10_10_00_00_00_00_00;
+
+// The same of the sixth word.
+const SIXTH: u64 = 0b11_11_00_00_00_01_00_00_00_00_00_00_00_00_00_00_00_00_00_00_00_00_00_00_00_00;
 
 // Whether operands named twice are one number to each kind: 0 no, 1 yes.
-const CORRELATED: u64 = 0b00_00_00_01_01_01_01_00_00_01_01_00_00_01_00_00_00_00_00_01_01_01_00_00;
+const CORRELATED: u64 =
+    0b00_00_00_00_00_01_01_01_01_00_00_01_01_00_00_01_00_00_00_00_00_01_01_01_00_00;
 
 // The width rule of each kind, in two digits.
-const RULES: u64 = 0b11_11_11_10_01_01_01_01_00_01_01_00_00_11_10_00_00_00_00_01_01_01_00_00;
+const RULES: u64 = 0b11_11_11_11_11_10_01_01_01_01_00_01_01_00_00_11_10_00_00_00_00_01_01_01_00_00;
 
-const RULES_FOURS: u64 = 0b00_00_00_01_01_01_01_00_00_00_00_01_01_00_00_00_00_00_00_00_00_00_00_00;
+const RULES_FOURS: u64 =
+    0b01_01_00_00_00_01_01_01_01_00_00_00_00_01_01_00_00_00_00_00_00_00_00_00_00_00;
 
 // The length of each kind's name, in two digits.
-const LENGTHS: u64 = 0b10_01_01_11_11_11_10_11_11_11_11_00_00_10_11_00_00_00_11_11_10_11_11_00;
+const LENGTHS: u64 =
+    0b01_00_10_01_01_11_11_11_10_11_11_11_11_00_00_10_11_00_00_00_11_11_10_11_11_00;
 
 const LENGTHS_FOURS: u64 =
-    0b01_01_01_00_00_00_00_00_00_00_00_01_01_01_01_01_01_01_00_00_00_00_00_01;
+    0b01_01_01_01_01_00_00_00_00_00_00_00_00_01_01_01_01_01_01_01_00_00_00_00_00_01;
 
 // The names, by kind, eight bytes to each.
 const NAMES: [u8; KINDS as usize * 8] =
-    *b"copy    not     and     or      xor     shl     lshr    ashr    rotl    extract concat  zext    sext    add     sub     neg     mul     eq      ult     slt     ite     umulw   smulw   sumulw  ";
+    *b"copy    not     and     or      xor     shl     lshr    ashr    rotl    extract concat  zext    sext    add     sub     neg     mul     eq      ult     slt     ite     umulw   smulw   sumulw  load    store   ";
 
 // Whether there is a kind of that number.
 pub fn is_kind(kind: u32) -> bool
@@ -76,6 +90,22 @@ pub fn parameter_use(kind: u32) -> u64
     ensures { λ r. ⌜ r ≡ useCode (kindOf kind .use-p) ⌝ }
 {
     digit(PARAMETER, kind)
+}
+
+// The same of the sixth word.
+pub fn sixth_use(kind: u32) -> u64
+    requires { ⌜ T (isKind kind) ⌝ }
+    ensures { λ r. ⌜ r ≡ useCode (kindOf kind .use-c) ⌝ }
+{
+    digit(SIXTH, kind)
+}
+
+// Whether a kind is a load or a store, which have cells.
+pub fn has_cells(kind: u32) -> bool
+    requires { ⌜ T (isKind kind) ⌝ }
+    ensures { λ r. ⌜ r ≡ isBase (kindOf kind .use-c) ⌝ }
+{
+    LOAD <= kind
 }
 
 // Whether the words a and b of a record of that kind name one row, and both operands are then one number. One comparison tells both: the bits in which

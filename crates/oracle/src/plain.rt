@@ -1,4 +1,4 @@
-// Each kind on plain numbers (01, "Points and plain runs"; 02, request 4).
+// Each kind without cells on plain numbers (01, "Points and plain runs"; 02, request 4).
 ghost use Prim.Native.Nat.{_^_, _≤_, _<_};
 ghost use Rattle.bits.specs.Limits.{widthLimit};
 ghost use Rattle.operations.specs.Limits.{parameterLimit};

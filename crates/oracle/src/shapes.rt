@@ -1,8 +1,13 @@
-// Kinds, widths and parameters that fit together (01, "Records"; 02, request 4).
+// Kinds, widths and parameters that fit together (01, "Records"; 02, requests 4 and 11).
 ghost use Rattle.oracle.specs.Sizes.{Sized};
 
 // How many kinds there are.
-pub const KINDS: u64 = 24;
+pub const KINDS: u64 = 26;
+
+// The kinds that have cells, the last two.
+pub const LOAD: u64 = 24;
+
+pub const STORE: u64 = 25;
 
 // A record's kind and parameter, and the widths of the target, the first and the second operand.
 pub struct Shape {
@@ -16,15 +21,15 @@ pub struct Shape {
 // Whether the kind uses a second operand.
 pub fn uses_second(kind: u64) -> bool {
     match kind {
-        2..=4 | 10 | 13..=14 | 16..=23 => true,
+        2..=4 | 10 | 13..=14 | 16..=23 | 25 => true,
         _ => false,
     }
 }
 
-// Whether both operands are one number where they are one row (02, requests 2 and 4): wherever there are two, but for mul and the wide products.
+// Whether both operands are one number where they are one row (02, requests 2, 4 and 11): wherever there are two, but for mul, the wide products and store.
 pub fn one_number(kind: u64) -> bool {
     match kind {
-        16 | 21..=23 => false,
+        16 | 21..=23 | 25 => false,
         _ => uses_second(kind),
     }
 }
@@ -49,17 +54,16 @@ fn widths_fit(s: Shape) -> bool
     }
 }
 
-// Whether the parameter is the kind's: any number of places, the condition's row, or 0.
+// Whether the parameter is the kind's: any number of places, or 0.
 fn parameter_fits(s: Shape) -> bool {
     let kind = s.kind;
     match kind {
         5..=9 => true,
-        20 => s.p == 2,
         _ => s.p == 0,
     }
 }
 
-// Whether the widths and the parameter are the kind's.
+// Whether the widths and the parameter are the kind's, which has no cells.
 pub fn fits(s: Shape) -> bool
     requires { ⌜ Sized (s .wt) (s .wa) (s .wb) (s .p) ⌝ }
 {

@@ -1,6 +1,6 @@
 -- Writing a line: its parts in the order in which they are put. Assumes nothing.
 --   row-begin, record-begin     a line, by its parts
-use mathlib.Core.Path.{_≡_, sym, ap}
+use mathlib.Core.Path.{_≡_, sym, ap, _∙_}
 use mathlib.Core.List.{List, [], _∷_, _++_, append-assoc}
 use Prim.Native.Nat.{ℕ}
 use Rattle.vectors.specs.Row.{row}
@@ -37,13 +37,10 @@ module _ (r : Record) where
   recordText = lineText (recordLine (wordsOf r))
 
   abbrev pub after-b : List ℕ
-  after-b = (tab ∷ decimal (r .p)) ++ lf ∷ []
-
-  abbrev pub after-a : List ℕ
-  after-a = (tab ∷ decimal (r .b)) ++ after-b
+  after-b = (tab ∷ decimal (r .p) ++ tab ∷ decimal (r .c)) ++ lf ∷ []
 
   abbrev pub after-t : List ℕ
-  after-t = (tab ∷ decimal (r .a)) ++ after-a
+  after-t = (tab ∷ decimal (r .a) ++ tab ∷ decimal (r .b)) ++ after-b
 
   abbrev pub after-name : List ℕ
   after-name = (tab ∷ decimal (r .t)) ++ after-t
@@ -51,9 +48,21 @@ module _ (r : Record) where
   abbrev pub after-op : List ℕ
   after-op = kindOf (r .kind) .name ++ after-name
 
-  record-whole : 111 ∷ 112 ∷ tab ∷ after-op ≡ recordText
+  -- the numbers one by one
+  abbrev singly : List ℕ
+  singly = (tab ∷ decimal (r .a)) ++ ((tab ∷ decimal (r .b)) ++ ((tab ∷ decimal (r .p)) ++ ((tab ∷ decimal (r .c)) ++ lf ∷ [])))
+
+  after-t-singly : after-t ≡ singly
+  after-t-singly =
+      append-assoc (tab ∷ decimal (r .a)) (tab ∷ decimal (r .b)) after-b
+      ∙ ap (λ (x : List ℕ). (tab ∷ decimal (r .a)) ++ ((tab ∷ decimal (r .b)) ++ x)) (append-assoc (tab ∷ decimal (r .p)) (tab ∷ decimal (r .c)) (lf ∷ []))
+
+  whole-singly : 111 ∷ 112 ∷ tab ∷ (kindOf (r .kind) .name ++ ((tab ∷ decimal (r .t)) ++ singly)) ≡ recordText
   unfolding lineText fieldsOf joined
-  record-whole = simp append-assoc
+  whole-singly = simp append-assoc
+
+  record-whole : 111 ∷ 112 ∷ tab ∷ after-op ≡ recordText
+  record-whole = ap {B = List ℕ} (λ (x : List ℕ). 111 ∷ 112 ∷ tab ∷ (kindOf (r .kind) .name ++ ((tab ∷ decimal (r .t)) ++ x))) after-t-singly ∙ whole-singly
 
   pub record-begin : (old : List ℕ) (at : ℕ) → Writing old at recordText old at (111 ∷ 112 ∷ tab ∷ after-op)
   record-begin old at = begin old at recordText (111 ∷ 112 ∷ tab ∷ after-op) record-whole

@@ -1,24 +1,19 @@
-// Writing words, numbers and lines into a lent buffer (01, "Text").
+// Writing words, numbers and row lines into a lent buffer (01, "Text").
 ghost use mathlib.Core.Path.{_≡_};
 ghost use mathlib.Core.List.{[], _∷_};
 ghost use Prim.Native.Nat.{_≤_, _<_};
 ghost use Rattle.bits.specs.Bit.{bit};
 ghost use Rattle.vectors.specs.Row.{row};
-ghost use Rattle.operations.specs.Kinds.{isKind, kindOf};
-ghost use Rattle.operations.specs.Record.{wordsOf};
 ghost use Rattle.bits.specs.Limits.{widthLimit};
-ghost use lib.Dec.{T};
-ghost use Rattle.grammar.specs.Words.{tab, lockWord};
-ghost use Rattle.grammar.specs.Print.{decimal, letter, lettersOf, rowLine, recordLine, lineText};
+ghost use Rattle.grammar.specs.Words.{lockWord};
+ghost use Rattle.grammar.specs.Print.{decimal, letter, lettersOf, rowLine, lineText};
 ghost use Rattle.printing.specs.Put.{Holds, Put};
 use grammar::LF;
 use grammar::TAB;
 use lengths::digit_count;
-use operations::Record;
-use operations::name_byte;
-use operations::name_len;
 
-fn put_byte(out: &mut [u8], at: usize, b: u8) -> usize
+// Writes a byte.
+pub fn put_byte(out: &mut [u8], at: usize, b: u8) -> usize
     requires { ⌜ Holds (now out) at (b ∷ []) ⌝ }
     ensures { λ r. ⌜ Put (now (out .entry)) (now (out .exit)) at r (b ∷ []) ⌝ }
 {
@@ -109,45 +104,4 @@ pub fn put_row(out: &mut [u8], at: usize, lock: u8, w: u32, m: u32, v: u32) -> u
     let c = put_byte(out, b, TAB);
     let d = put_letters(out, c, w, m, v);
     put_byte(out, d, LF)
-}
-
-// ---- records
-
-fn put_name(out: &mut [u8], at: usize, k: usize) -> usize
-    requires { ⌜ T (isKind k) × Holds (now out) at (kindOf k .name) ⌝ }
-    ensures { λ r. ⌜ Put (now (out .entry)) (now (out .exit)) at r (kindOf k .name) ⌝ }
-{
-    let len = name_len(k);
-    let mut to = at;
-    let mut i: usize = 0;
-    while i < len {
-        out[to] = name_byte(k, i);
-        to += 1;
-        i += 1;
-    }
-    to
-}
-
-// Writes a tab and a number.
-fn put_next(out: &mut [u8], at: usize, n: usize) -> usize
-    requires { ⌜ Holds (now out) at (tab ∷ decimal n) ⌝ }
-    ensures { λ r. ⌜ Put (now (out .entry)) (now (out .exit)) at r (tab ∷ decimal n) ⌝ }
-{
-    let a = put_byte(out, at, TAB);
-    put_number(out, a, n)
-}
-
-// Writes a record line.
-pub fn put_record(out: &mut [u8], at: usize, r: Record) -> usize
-    requires { ⌜ T (isKind (r .kind)) × Holds (now out) at (lineText (recordLine (wordsOf r))) ⌝ }
-    ensures { λ end. ⌜ Put (now (out .entry)) (now (out .exit)) at end (lineText (recordLine (wordsOf r))) ⌝ }
-{
-    let Record { kind, t, a, b, p } = r;
-    let x = put_word(out, at, b"op\t");
-    let y = put_name(out, x, kind as usize);
-    let z = put_next(out, y, t as usize);
-    let u = put_next(out, z, a as usize);
-    let v = put_next(out, u, b as usize);
-    let w = put_next(out, v, p as usize);
-    put_byte(out, w, LF)
 }

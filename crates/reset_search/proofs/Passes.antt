@@ -13,7 +13,7 @@ use borrow.Author.Tests.{ne-eqb}
 use Rattle.bits.specs.Counted.{listed, rising}
 use Rattle.operations.specs.Record.{widthAt}
 use Rattle.checks.specs.Table.{State, Table, startOf, withRows}
-use Rattle.tables.specs.Demand.{StateFits}
+use Rattle.steps.specs.States.{StateFits}
 use Rattle.tables.proofs.FullRuns.{accepted-from, full-ready}
 use Rattle.conclusions.specs.declared.Conclusion.{Conclusion}
 use Rattle.conclusions.specs.Pass.{position, bitsIn, visit, walk, passRows}

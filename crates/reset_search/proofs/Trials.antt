@@ -9,10 +9,10 @@ use lib.ListN.{length, getD}
 use Rattle.bits.specs.Bit.{bit}
 use Rattle.checks.specs.Table.{State, Table, startOf, recordCount}
 use Rattle.checks.specs.Accepted.{Accepted}
-use Rattle.tables.specs.Step.{after}
+use Rattle.steps.specs.Step.{after}
 use Rattle.tables.specs.Run.{programOf}
 use Rattle.tables.specs.Encoding.{StretchReady}
-use Rattle.tables.specs.Demand.{StateFits}
+use Rattle.steps.specs.States.{StateFits}
 use Rattle.tables.proofs.Demand3.{start-fits}
 use Rattle.tables.proofs.FullRuns.{full-after}
 use Rattle.conclusions.specs.declared.Conclusion.{Conclusion}

@@ -6,7 +6,7 @@ ghost use lib.ListN.{length};
 ghost use Rattle.checks.specs.Accepted.{Accepted};
 ghost use Rattle.checks.specs.Table.{startOf, recordCount};
 ghost use Rattle.checks.specs.Model.{lent};
-ghost use Rattle.tables.specs.Model.{held};
+ghost use Rattle.steps.specs.States.{held};
 ghost use Rattle.conclusions.specs.Encoding.{InTable};
 ghost use Rattle.conclusions.specs.Pass as Pass;
 ghost use Rattle.conclusions.specs.Pass.{position, bitsIn, concludesb, walk, passRows};

@@ -1,27 +1,27 @@
 // Small tables through `reset_bits`, each compared with plain enumeration of every set of bits that could be left unset.
 ghost use Prim.Native.Nat.{_<_};
 use checks::refusals;
-use oracle::choices::Row;
-use oracle::choices::enumerated;
 use oracle::numbers::bit;
 use oracle::numbers::byte;
 use oracle::numbers::power;
 use oracle::numbers::word;
-use oracle::shapes::Shape;
+use records::record;
+use records::result;
 use resets::ResetAnswer;
 use resets::reset_bits;
 use rows::Rows;
 use rows::masks;
-use rows::row_at;
 use rows::values;
+use rows::with_last;
 use rows::with_unknown;
 use trials::same;
 
+mod records; // records.rt: records that write row 3
 mod rows; // rows.rt: four rows of 2 bits
 pub mod sweeps; // sweeps.rt: the tables tried
 
-// A table of such rows, of which rows 0 to 2 may be locked (bits 0 to 2), and two records of these kinds: row 3 becomes that of rows 0 and 1, then that of rows
-// 3 and 2. A bit of row 3 is named.
+// A table of such rows, of which rows 0 to 2 may be locked (bits 0 to 2), and two records of these kinds, which write row 3: the first has the operand rows 0 and
+// 1, the second 3 and 2. A bit of row 3 is named.
 struct Question {
     rows: Rows,
     locked: u64,
@@ -30,25 +30,13 @@ struct Question {
     bit: u64,
 }
 
-// The row of a record of two operands.
-fn result(kind: u64, a: Row, b: Row) -> Row {
-    let s = Shape {
-        kind: kind,
-        wt: 2,
-        wa: 2,
-        wb: 2,
-        p: 0,
-    };
-    enumerated(s, a, b, Row { mask: 0, value: 0 })
-}
-
 // How the bit named ends: 0, 1, or 2 for X.
 fn ends(q: Question, set: u64) -> u64
     requires { ⌜ q .bit < 2 ⌝ }
 {
     let rows = with_unknown(q.rows, set);
-    let made = result(q.first, row_at(rows, 0), row_at(rows, 1));
-    let end = result(q.second, made, row_at(rows, 2));
+    let made = with_last(rows, result(q.first, rows, 0, 1));
+    let end = result(q.second, made, 3, 2);
     if bit(end.mask as u64, q.bit) == 1 {
         return 2;
     }
@@ -118,7 +106,22 @@ fn leaves(q: Question, value: u64, set: u64) -> bool {
         byte(bit(q.locked, 2)),
         0,
     ];
-    let words = [word(q.first), 3, 0, 1, 0, word(q.second), 3, 3, 2, 0];
+    let first = record(q.first, 0, 1);
+    let second = record(q.second, 3, 2);
+    let words = [
+        first[0],
+        first[1],
+        first[2],
+        first[3],
+        first[4],
+        first[5],
+        second[0],
+        second[1],
+        second[2],
+        second[3],
+        second[4],
+        second[5],
+    ];
     let mut mask = masks(q.rows);
     let mut value_slice = values(q.rows);
     let answer = reset_bits(

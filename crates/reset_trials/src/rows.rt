@@ -29,6 +29,14 @@ pub fn with_unknown(r: Rows, set: u64) -> Rows {
     }
 }
 
+// The rows with another row 3.
+pub fn with_last(r: Rows, last: Row) -> Rows {
+    Rows {
+        mask: r.mask % 64 + last.mask as u64 % 4 * 64,
+        value: r.value % 64 + last.value as u64 % 4 * 64,
+    }
+}
+
 // The masks of the rows, and their values.
 pub fn masks(r: Rows) -> [u32; 4] {
     [

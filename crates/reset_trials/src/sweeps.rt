@@ -1,4 +1,4 @@
-// The tables tried: every two of six kinds, every lock of three rows, every value of them, known or with one bit X.
+// The tables tried: every two of eight kinds, every lock of three rows, every value of them, known or with one bit X.
 ghost use Prim.Native.Nat.{_≤_, _<_};
 use crate::Question;
 use crate::agrees;
@@ -9,15 +9,17 @@ use trials::counting::joined;
 use trials::counting::none;
 use trials::counting::one;
 
-// A kind of two operands of one width: and, or, xor, add, sub or mul.
+// A kind of two operands of one width: and, or, xor, add, sub, mul, load or store.
 fn kind(n: u64) -> u64 {
-    match n % 6 {
+    match n % 8 {
         0 => 2,
         1 => 3,
         2 => 4,
         3 => 13,
         4 => 14,
-        _ => 16,
+        5 => 16,
+        6 => 24,
+        _ => 25,
     }
 }
 
@@ -68,8 +70,8 @@ fn each_start(locked: u64, first: u64, second: u64) -> Tally {
 pub fn resets() -> Tally {
     let mut tally = none();
     let mut n: u64 = 0;
-    while n < 288 {
-        tally = joined(tally, each_start(n / 36, kind(n), kind(n / 6)));
+    while n < 512 {
+        tally = joined(tally, each_start(n / 64, kind(n), kind(n / 8)));
         n += 1;
     }
     tally

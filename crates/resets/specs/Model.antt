@@ -4,7 +4,7 @@ use mathlib.Core.List.{List}
 use Prim.Native.Nat.{ℕ}
 use Rattle.checks.specs.Check.{Answer, done, refused}
 use Rattle.tables.specs.Run.{Ran}
-use Rattle.tables.specs.Model.{held}
+use Rattle.steps.specs.States.{held}
 use Rattle.resets.specs.declared.ResetAnswer.{ResetAnswer}
 use Rattle.resets.specs.declared.ResetAnswer.the-variants.{Value, Refused}
 

@@ -3,7 +3,7 @@ ghost use mathlib.Core.Path.{_≡_};
 ghost use Prim.Native.Nat.{ℕ};
 ghost use Rattle.checks.specs.Check.{done};
 ghost use Rattle.checks.specs.Model.{lent, verdictModel, judged};
-ghost use Rattle.tables.specs.Model.{held};
+ghost use Rattle.steps.specs.States.{held};
 ghost use Rattle.conclusions.specs.Encoding.{TrialRows, Named};
 ghost use Rattle.conclusions.specs.Reset.{conclusion, namingChecks, resetOf, RestsOn};
 ghost use Rattle.resets.specs.Encoding.{RoomFor};

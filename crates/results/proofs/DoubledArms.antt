@@ -14,7 +14,8 @@ use Rattle.operations.specs.Bitwise.{opAnd, opOr, opXor}
 use Rattle.operations.specs.Moves.{opShl, opConcat}
 use Rattle.operations.specs.Arithmetic.{opAdd, opSub, opEq, opUlt, opSlt, opIte}
 use Rattle.operations.specs.Kinds.{numbered, isKind, kindOf}
-use Rattle.operations.specs.Record.{operands, misused}
+use Rattle.operations.specs.Record.{operands}
+use Rattle.operations.specs.Faults.{misused}
 use Rattle.operations.specs.Result.{resultOf, resultOnce, Ready}
 use Rattle.operations.specs.Doubled.{Doubled, doubled, doubledTable, DoubledIs}
 use Rattle.operations.proofs.DoubledKinds.{doubled-kinds}
@@ -23,11 +24,11 @@ use Rattle.kernels.proofs.KindDispatch.{arm-concat}
 use Rattle.results.proofs.DoubledResults.{same-width, ite-width, ite-row, doubled-results}
 
 abbrev pub Due : Given → Row
-Due g = resultOnce true (kindOf (g .kind)) (g .wt) (g .p) (operands (kindOf (g .kind)) (g .ra) (g .rb) (g .rc))
+Due g = resultOnce true (kindOf (g .kind)) (g .wt) (g .p) (operands (kindOf (g .kind)) (g .ra) (g .rb) (g .rc ∷ []))
 
 module _ (k : Kind) (n : ℕ) (own : kindOf n ≡ k) (g : Given) (e : g .kind ≡ n) (same : g .ra ≡ g .rb) (rest : List Row)
-    (o : operands k (g .ra) (g .rb) (g .rc) ≡ g .ra ∷ g .rb ∷ rest) where
-  one-row : operands k (g .ra) (g .rb) (g .rc) ≡ g .ra ∷ g .ra ∷ rest
+    (o : operands k (g .ra) (g .rb) (g .rc ∷ []) ≡ g .ra ∷ g .rb ∷ rest) where
+  one-row : operands k (g .ra) (g .rb) (g .rc ∷ []) ≡ g .ra ∷ g .ra ∷ rest
   one-row = o ∙ (λ ι. g .ra ∷ sym same ι ∷ rest)
 
   ready-twice : Ready k (g .wt) (g .p) (g .ra ∷ g .ra ∷ rest)
@@ -36,7 +37,7 @@ module _ (k : Kind) (n : ℕ) (own : kindOf n ≡ k) (g : Given) (e : g .kind �
   due-twice : resultOnce true k (g .wt) (g .p) (g .ra ∷ g .ra ∷ rest) ≡ Due g
   due-twice =
       let kind-is = sym (ap kindOf e ∙ own) in
-      sym (ap (resultOnce true k (g .wt) (g .p)) one-row) ∙ (λ ι. resultOnce true (kind-is ι) (g .wt) (g .p) (operands (kind-is ι) (g .ra) (g .rb) (g .rc)))
+      sym (ap (resultOnce true k (g .wt) (g .p)) one-row) ∙ (λ ι. resultOnce true (kind-is ι) (g .wt) (g .p) (operands (kind-is ι) (g .ra) (g .rb) (g .rc ∷ [])))
 
   entry-due : (f : ℕ → ℕ → Row → List Row → Row) → DoubledIs (doubled k f) → f (g .wt) (g .p) (g .ra) rest ≡ Due g
   entry-due f D = sym (D (g .wt) (g .p) (g .ra) rest ready-twice) ∙ due-twice

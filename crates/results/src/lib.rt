@@ -1,13 +1,16 @@
-// A record's result: from the dispatch, or at hand where its words a and b name one row and both operands are one number.
+// The result of a record without cells: from the dispatch, or at hand where its words a and b name one row and both operands are one number.
 use logic::movement;
 use operations::Record;
 use operations::named_twice;
 use vectors::Vector;
 ghost use mathlib.Core.Path.{_≡_};
+ghost use mathlib.Core.Bool.{not};
+ghost use mathlib.Core.List.{[], _∷_};
 ghost use Prim.Native.Nat.{_≤_};
 ghost use lib.Dec.{T};
 ghost use Rattle.bits.specs.Limits.{widthLimit};
 ghost use Rattle.vectors.specs.Row.{row};
+ghost use Rattle.operations.specs.Kind.{isBase};
 ghost use Rattle.operations.specs.Kinds.{isKind, kindOf};
 ghost use Rattle.operations.specs.Result.{resultOnce, Ready};
 ghost use Rattle.operations.specs.Record.{wordsOf, operands, namedTwice};
@@ -27,11 +30,11 @@ pub fn of_record(
     vc: u32,
 ) -> Vector
     requires { let k = kindOf (r .kind) in
-        ⌜ T (isKind (r .kind)) × (wt ≤ widthLimit) × (wa ≤ widthLimit) × Ready k wt (r .p) (operands k (row wa ma va) (row wb mb vb) (row 1 mc vc)) ⌝ }
+        ⌜ T (isKind (r .kind)) × T (not (isBase (k .use-c))) × (wt ≤ widthLimit) × (wa ≤ widthLimit) × Ready k wt (r .p) (operands k (row wa ma va) (row wb mb vb) (row 1 mc vc ∷ [])) ⌝ }
     requires { ⌜ (T (namedTwice (wordsOf r)) → row wa ma va ≡ row wb mb vb) ⌝ }
     ensures { λ v.
         let k = kindOf (r .kind) in
-        ⌜ row wt (v .mask) (v .value) ≡ resultOnce (namedTwice (wordsOf r)) k wt (r .p) (operands k (row wa ma va) (row wb mb vb) (row 1 mc vc)) ⌝ }
+        ⌜ row wt (v .mask) (v .value) ≡ resultOnce (namedTwice (wordsOf r)) k wt (r .p) (operands k (row wa ma va) (row wb mb vb) (row 1 mc vc ∷ [])) ⌝ }
 {
     let kind = r.kind;
     if !named_twice(kind, r.a, r.b) {

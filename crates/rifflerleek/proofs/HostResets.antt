@@ -6,7 +6,7 @@ use native.Mathlib.Omega.{arith}
 use Rattle.checks.specs.Check.{Answer, done, refused, verdict}
 use Rattle.checks.specs.Table.{Table}
 use Rattle.tables.specs.Run.{Ran}
-use Rattle.tables.specs.Model.{held}
+use Rattle.steps.specs.States.{held}
 use Rattle.tables.proofs.Leaving.{leaving-answer}
 use Rattle.conclusions.specs.Pass.{passRows}
 use Rattle.conclusions.specs.Reset.{conclusion, valueOf, resetChecks, resetOf, RestsOn}

@@ -4,7 +4,8 @@ use mathlib.Core.List.{_++_}
 use Prim.Native.Nat.{ℕ, _≤_}
 use lib.Dec.{T, leb, leb→le}
 use lib.ListN.{length}
-use Rattle.operations.specs.Record.{recordFaults, lockFault, widthAt}
+use Rattle.operations.specs.Record.{widthAt}
+use Rattle.operations.specs.Faults.{recordFaults, lockFault}
 use Rattle.checks.specs.Check.{refused, verdict, placed}
 use Rattle.checks.specs.Checks.{rowFaultsAt, bitFaults, rowNamedFaults, rowChecks, openChecks, runChecks}
 use Rattle.checks.specs.Model.{judged}

@@ -7,12 +7,13 @@ use Rattle.checks.specs.Check.{Answer, done, refused, verdict}
 use Rattle.checks.specs.Checks.{runChecks}
 use Rattle.checks.specs.Table.{Table, startOf}
 use Rattle.checks.proofs.Verdicts.{passed-of-done, done-of-passed}
-use Rattle.tables.specs.Step.{after}
+use Rattle.steps.specs.Step.{after}
 use Rattle.tables.specs.Known.{Demand2}
 use Rattle.tables.specs.Demand.{Demand3}
 use Rattle.tables.specs.Run.{programOf, Ran, runOf}
 use Rattle.tables.specs.declared.RunAnswer.{RunAnswer}
-use Rattle.tables.specs.Model.{held, runModel, ran}
+use Rattle.tables.specs.Model.{runModel, ran}
+use Rattle.steps.specs.States.{held}
 use Rattle.tables.proofs.Leaving.{leaving-answer}
 use Rattle.tables.proofs.RunLaws.{Meets}
 use Rattle.rifflerleek.specs.declared.Answer.{Answer as HostAnswer}

@@ -4,7 +4,7 @@ ghost use mathlib.Core.List.{[]};
 ghost use Rattle.checks.specs.Model.{lent};
 ghost use Rattle.tables.specs.Known.{Demand2};
 ghost use Rattle.tables.specs.Demand.{Demand3};
-ghost use Rattle.tables.specs.Model.{held};
+ghost use Rattle.steps.specs.States.{held};
 ghost use Rattle.tables.specs.Run.{runOf, countOf};
 ghost use Rattle.grammar.specs.Cut.{fieldEnds};
 ghost use Rattle.texts.specs.Calls.{sizeOf, writeOf, readOf};

@@ -1,7 +1,7 @@
 // Which reset bits a conclusion rests on, exported (02, request 9).
 ghost use mathlib.Core.Path.{_≡_};
 ghost use Rattle.checks.specs.Model.{lent};
-ghost use Rattle.tables.specs.Model.{held};
+ghost use Rattle.steps.specs.States.{held};
 ghost use Rattle.conclusions.specs.Reset.{conclusion, resetOf, RestsOn};
 ghost use Rattle.rifflerleek.specs.Host.{outcome, hostRan};
 use crate::Answer;

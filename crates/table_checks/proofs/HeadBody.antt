@@ -6,7 +6,7 @@ use Prim.Native.Nat.{ℕ, zero, suc, _≤_}
 use lib.Dec.{eqb, nltb→le, eqb→eq}
 use lib.ListN.{length}
 use Rattle.bits.proofs.Bools.{T-not-not}
-use Rattle.operations.specs.Record.{recordFaults}
+use Rattle.operations.specs.Faults.{recordFaults}
 use Rattle.bits.specs.Counted.{rising}
 use Rattle.checks.specs.Check.{done, Check, placed, Passed}
 use Rattle.checks.specs.Limits.{rowLimit}

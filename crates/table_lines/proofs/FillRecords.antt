@@ -1,7 +1,7 @@
 -- The second pass over the record lines of a text. Assumes nothing.
 --   Filling, begin, more, done    the loop
 --   ends-in, no-row, no-outside   while a record is left, the next line is a record line with its LF
---   five                          the words of a record put one by one
+--   six                           the words of a record put one by one
 --   same-length, room             the slice keeps its length and has room for a record
 use mathlib.Core.Path.{_≡_, refl, sym, ap, ap₂, _∙_}
 use mathlib.Core.Bool.{true}
@@ -38,9 +38,9 @@ pub record Filling (ed : Edition) (text : List ℕ) (from at i k n : ℕ) (ws ws
 pub begin : (ed : Edition) (text : List ℕ) (from n : ℕ) (ws : List ℕ) → RecordsWait ed text from n ws → Filling ed text from from 0 0 n ws ws
 begin ed text from n ws h = record { index = omega arith; inside = h .inside; good = h .good; count = h .count; rest = refl; words-are = refl; few = omega arith }
 
--- the five words of a record, put one by one
-pub five : (l : List ℕ) (i a b c d e : ℕ) → set (set (set (set (set l i a) (i + 1) b) (i + 2) c) (i + 3) d) (i + 4) e ≡ sets l i (a ∷ b ∷ c ∷ d ∷ e ∷ [])
-five l i a b c d e = simp towards-suc
+-- the six words of a record, put one by one
+pub six : (l : List ℕ) (i a b c d e f : ℕ) → set (set (set (set (set (set l i a) (i + 1) b) (i + 2) c) (i + 3) d) (i + 4) e) (i + 5) f ≡ sets l i (a ∷ b ∷ c ∷ d ∷ e ∷ f ∷ [])
+six l i a b c d e f = simp towards-suc
 
 module _ {ed : Edition} {text : List ℕ} {from at i k n : ℕ} {ws ws′ : List ℕ} (s : Filling ed text from at i k n ws ws′) where
   pub same-length : length ws′ ≡ length ws

@@ -10,8 +10,9 @@ use lib.ListN.{length}
 use Rattle.bits.proofs.Bools.{T-right}
 use Rattle.bits.proofs.Bits.{digit-lt}
 use Rattle.bits.specs.Limits.{widthLimit}
-use Rattle.grammar.specs.Lists.{allOf, same}
-use Rattle.grammar.specs.Words.{Edition, rowWord, opWord, lockedWord}
+use Rattle.grammar.specs.Lists.{same}
+use Rattle.vectors.specs.Lists.{allOf}
+use Rattle.grammar.specs.Words.{Edition, numberCount, sixFor, rowWord, opWord, lockedWord}
 use Rattle.grammar.specs.Print.{LineRow, Line, rowLine, recordLine, outside}
 use Rattle.grammar.specs.Line.{isNumber, numberOf, isVector, vectorOf, isLock, lockOf, isName, numberNamed, rowOf, recordIn, lineOf}
 use Rattle.grammar.proofs.Tests.{by-cond}
@@ -34,7 +35,8 @@ row-small ed (lock ∷ vector ∷ f ∷ fs) = tt
 record-small : (ed : Edition) (fs : List (List ℕ)) → Small (recordIn ed fs)
 record-small ed [] = tt
 record-small ed (name ∷ fs) =
-    by-cond Small (isName name (ed .operations) && eqb (length fs) (ed .numbers) && allOf isNumber fs) (recordLine (numberNamed name (ed .operations) ∷ map numberOf fs)) outside (λ t. tt) (λ t. tt)
+    by-cond Small (isName name (ed .operations) && eqb (length fs) (numberCount ed) && allOf isNumber fs)
+    (recordLine (numberNamed name (ed .operations) ∷ sixFor ed (numberNamed name (ed .operations)) 0 (map numberOf fs))) outside (λ t. tt) (λ t. tt)
 
 line-small : (ed : Edition) (fs : List (List ℕ)) → Small (lineOf ed fs)
 unfolding lineOf

@@ -123,6 +123,7 @@ fn put_words(words: &mut [u32], at: usize, r: Record) -> usize
     words[at + 2] = r.a;
     words[at + 3] = r.b;
     words[at + 4] = r.p;
+    words[at + 5] = r.c;
     at + RECORD_WORDS
 }
 

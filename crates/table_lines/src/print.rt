@@ -7,19 +7,26 @@ ghost use Rattle.table_lines.specs.Print.{RowsFit, RecordsFit};
 use bits::wide;
 use checks::records::record_at;
 use operations::RECORD_WORDS;
-use printing::put::put_record;
 use printing::put::put_row;
+use printing::records::put_record;
 
-// Writes the row lines of a table.
-pub fn put_rows(out: &mut [u8], width: &[u8], lock: &[u8], mask: &[u32], value: &[u32]) -> usize
+// Writes the row lines of a table from `from` on.
+pub fn put_rows(
+    out: &mut [u8],
+    from: usize,
+    width: &[u8],
+    lock: &[u8],
+    mask: &[u32],
+    value: &[u32],
+) -> usize
     requires { let table = lent (now width) (now lock) (now mask) (now value) [] in
-        ⌜ RowsFit (now width) (now lock) (now mask) (now value) × Holds (now out) 0 (linesText (rowLines table)) ⌝ }
+        ⌜ RowsFit (now width) (now lock) (now mask) (now value) × Holds (now out) from (linesText (rowLines table)) ⌝ }
     ensures { λ r.
         let table = lent (now (width .entry)) (now (lock .entry)) (now (mask .entry)) (now (value .entry)) [] in
-        ⌜ Put (now (out .entry)) (now (out .exit)) 0 r (linesText (rowLines table)) ⌝ }
+        ⌜ Put (now (out .entry)) (now (out .exit)) from r (linesText (rowLines table)) ⌝ }
 {
     let n = width.len();
-    let mut at: usize = 0;
+    let mut at = from;
     let mut i: usize = 0;
     while i < n {
         at = put_row(out, at, lock[i], wide(width[i]), mask[i], value[i]);

@@ -1,20 +1,20 @@
 -- Demand 3, for every table and every stretch that run accepts, with all kinds. Assumes nothing.
 use mathlib.Core.Path.{_≡_, refl, sym, ap, _∙_, subst, subst₂}
-use mathlib.Core.List.{[], _∷_}
 use Prim.Native.Nat.{ℕ, suc, _-_, _≤_, _<_}
 use native.Mathlib.Nat.{add-sub-of-le, sub-self}
 use native.Mathlib.Omega.{arith}
-use Rattle.operations.specs.Record.{Effect, effectOf, effectsOf, targetWord}
+use Rattle.operations.proofs.Parts.{targets-distinct}
 use Rattle.checks.specs.Check.{Answer, done}
 use Rattle.checks.specs.Table.{State, Table, startOf, withRows, recordOf}
 use Rattle.checks.specs.Checks.{runChecks}
 use Rattle.checks.specs.Accepted.{TablePassed, Accepted}
 use Rattle.checks.proofs.Accepts.{accepted-of-passed, answer-of-accepted}
-use Rattle.tables.specs.Step.{after}
+use Rattle.steps.specs.Step.{after}
 use Rattle.tables.specs.Run.{effectsAt, programOf, Ran, leaving, runOf, pointRows, plainRun}
-use Rattle.tables.specs.Demand.{StateFits, CoversState, InsideState, After, Demand3}
+use Rattle.tables.specs.Demand.{After, Demand3}
+use Rattle.steps.specs.States.{StateFits, CoversState, InsideState}
 use Rattle.tables.proofs.Leaving.{leaving-passed}
-use Rattle.tables.proofs.Fits.{FitProgram, effects-fit}
+use Rattle.tables.proofs.Fits.{FitProgram, effect-targets, effects-fit}
 use Rattle.tables.proofs.Points.{Stretch, stretch, after-fits}
 
 -- ---- run and acceptance
@@ -58,7 +58,7 @@ accepted-with t first last A rows S s h l =
       };
       ordered = h;
       within = let w = A .within in omega arith;
-      open-target = A .open-target;
+      open-targets = A .open-targets;
     }
 
 -- ---- the theorem
@@ -80,10 +80,6 @@ module _ (t : Table) (first last : ℕ) (A : Accepted t first last) where
   formed : (s : ℕ) → first ≤ s → s ≤ last → StateFits (t .widths) (pointRows t first s)
   formed s h l = subst (StateFits (t .widths)) (sym (at-point (startOf t) fits s h l)) (after-fits (programOf t) first (startOf t) fits (s - first))
 
-  one-effect : (s : ℕ) → (e : Effect) × (effectsAt t s ≡ e ∷ []) × (e .target ≡ targetWord (recordOf t s))
-  unfolding effectsOf effectOf
-  one-effect s = (effectOf (t .widths) (recordOf t s), refl, refl)
-
   best-results : (s : ℕ) → first ≤ s → s < last → After (t .widths) (effectsAt t s) (pointRows t first s) (pointRows t first (suc s))
   best-results s h l =
       let next : suc s - first ≡ suc (s - first) = omega arith in
@@ -101,7 +97,7 @@ module _ (t : Table) (first last : ℕ) (A : Accepted t first last) where
         points = answers (startOf t) fits;
         start = at-point (startOf t) fits first (omega arith) (A .ordered) ∙ ap (λ (n : ℕ). after (programOf t) first n (startOf t)) (sub-self first);
         formed = λ s h l. formed s h l .formed;
-        one-target = λ s h l. one-effect s;
+        target-rows = λ s h l. (effect-targets (t .widths) (recordOf t s), targets-distinct (recordOf t s));
         best-results = best-results;
         plain-runs = λ ns C s h l.
             subst (λ (r : State). CoversState (t .widths) r (plainRun t first s ns)) (sym (at-point (startOf t) fits s h l)) (whole .plain-runs ns C (s - first) (omega arith));

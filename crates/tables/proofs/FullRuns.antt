@@ -5,10 +5,11 @@ use native.Mathlib.Nat.{sub-zero}
 use native.Mathlib.Omega.{arith}
 use Rattle.checks.specs.Table.{State, Table, withRows, recordCount}
 use Rattle.checks.specs.Accepted.{Accepted}
-use Rattle.tables.specs.Step.{after}
+use Rattle.steps.specs.Step.{after}
 use Rattle.tables.specs.Run.{programOf, fullRun}
 use Rattle.tables.specs.Encoding.{StretchReady}
-use Rattle.tables.specs.Demand.{StateFits, Demand3}
+use Rattle.tables.specs.Demand.{Demand3}
+use Rattle.steps.specs.States.{StateFits}
 use Rattle.tables.proofs.Demand3.{accepted-with, at-point, demand3}
 use Rattle.tables.proofs.StretchLaws.{stretch-ready}
 

@@ -1,6 +1,5 @@
 -- The laws and proofs of `tables`.
 pub mod Fits
-pub mod Put
 pub mod PutAll
 pub mod Steps
 pub mod Points

@@ -5,8 +5,8 @@ use Prim.Native.Nat.{ℕ, zero, suc, _+_, _≤_}
 use native.Mathlib.Omega.{arith}
 use lib.ListN.{length, length-map, take, drop}
 use lib.Seq.{take-take}
-use Rattle.operations.specs.Kind.{Use, asRow, asNumber, unused, Kind}
-use Rattle.operations.specs.Record.{used, operands}
+use Rattle.operations.specs.Kind.{Use, asRow, asNumber, asCount, asBase, unused, Kind}
+use Rattle.operations.specs.Record.{used, usedLast, operands}
 use Rattle.operations.specs.Result.{arity}
 
 -- a stretch inside a part of a list is that stretch of the list
@@ -19,13 +19,20 @@ inside-part n (suc k) (suc m) (a ∷ l) h = inside-part n k m l (omega arith)
 with-length : (u : Use) (word word′ : ℕ) (l m : List ℕ) → length l ≡ length m → length (used u word l) ≡ length (used u word′ m)
 with-length asRow word word′ l m e = ap suc e
 with-length asNumber word word′ l m e = e
+with-length asCount word word′ l m e = e
+with-length asBase word word′ l m e = e
 with-length unused word word′ l m e = e
 
--- a record names as many operand rows as its kind has
-words-count : (k : Kind) (a b p : ℕ) → length (operands k a b p) ≡ arity k
-words-count k a b p =
-    with-length (k .use-a) a 0 (used (k .use-b) b (used (k .use-p) p [])) (used (k .use-b) 0 (used (k .use-p) 0 []))
-    (with-length (k .use-b) b 0 (used (k .use-p) p []) (used (k .use-p) 0 []) (with-length (k .use-p) p 0 [] [] refl))
+last-length : (u : Use) (c : ℕ) → length (usedLast u (c ∷ [])) ≡ length (usedLast {A = ℕ} u (0 ∷ []))
+last-length asRow c = refl
+last-length asNumber c = refl
+last-length asCount c = refl
+last-length asBase c = refl
+last-length unused c = refl
 
-pub operands-count : {A : Type 0} (f : ℕ → A) (k : Kind) (a b p : ℕ) → length (map f (operands k a b p)) ≡ arity k
-operands-count f k a b p = length-map (operands k a b p) f ∙ words-count k a b p
+-- a record names as many operand rows as its kind has
+words-count : (k : Kind) (a b c : ℕ) → length (operands k a b (c ∷ [])) ≡ arity k
+words-count k a b c = with-length (k .use-a) a 0 _ _ (with-length (k .use-b) b 0 _ _ (last-length (k .use-c) c))
+
+pub operands-count : {A : Type 0} (f : ℕ → A) (k : Kind) (a b c : ℕ) → length (map f (operands k a b (c ∷ []))) ≡ arity k
+operands-count f k a b c = length-map (operands k a b (c ∷ [])) f ∙ words-count k a b c

@@ -4,8 +4,9 @@ use mathlib.Core.List.{List}
 use Prim.Native.Nat.{ℕ, zero, suc, _+_, _≤_, _<_}
 use native.Mathlib.Omega.{arith}
 use Rattle.checks.specs.Table.{State}
-use Rattle.tables.specs.Step.{Program, after, plainAfter}
-use Rattle.tables.specs.Demand.{StateFits, CoversState, InsideState, After}
+use Rattle.steps.specs.Step.{Program, after, plainAfter}
+use Rattle.tables.specs.Demand.{After}
+use Rattle.steps.specs.States.{StateFits, CoversState, InsideState}
 use Rattle.tables.proofs.Fits.{FitProgram}
 use Rattle.tables.proofs.Steps.{step-fits, step-after, step-covers, step-inside}
 

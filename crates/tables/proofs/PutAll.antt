@@ -10,10 +10,10 @@ use Rattle.vectors.specs.Lists.{All, Distinct}
 use Rattle.vectors.specs.Row.{Row, WellFormed, Covers, Inside}
 use Rattle.operations.specs.Record.{widthAt}
 use Rattle.checks.specs.Table.{State, rowAt}
-use Rattle.tables.specs.Step.{put, putAll, setAll}
-use Rattle.tables.specs.Demand.{StateFits, CoversState, InsideState}
+use Rattle.steps.specs.Step.{put, putAll, setAll}
+use Rattle.steps.specs.States.{StateFits, CoversState, InsideState}
 use Rattle.vectors.proofs.Lists.{all-unmap, all-imp}
-use Rattle.tables.proofs.Put.{row-same, row-other, fits-put, covers-put, inside-put}
+use Rattle.steps.proofs.Put.{row-same, row-other, fits-put, covers-put, inside-put}
 
 pub record FitPut (widths : List ℕ) (i : ℕ) (r : Row) : Type 0 where
   pub width-is : r .width ≡ widthAt widths i

@@ -8,7 +8,7 @@ use Rattle.checks.specs.Accepted.{Accepted}
 use Rattle.checks.specs.Model.{judged}
 use Rattle.checks.proofs.Verdicts.{not-done}
 use Rattle.checks.proofs.Accepts.{accepted-of-answer}
-use Rattle.tables.specs.Step.{after}
+use Rattle.steps.specs.Step.{after}
 use Rattle.tables.specs.Run.{programOf, Ran, runOf, pointRows}
 use Rattle.tables.specs.Known.{Demand2}
 use Rattle.tables.specs.Demand.{Demand3}

@@ -15,8 +15,9 @@ use Rattle.vectors.proofs.BestLaws.{best-exact, best-covers, best-mono}
 use Rattle.operations.specs.Record.{Effect, widthAt}
 use Rattle.operations.specs.Result.{Below}
 use Rattle.checks.specs.Table.{State, rowAt}
-use Rattle.tables.specs.Step.{operandRows, operandNumbers, result, step, plainStep}
-use Rattle.tables.specs.Demand.{StateFits, CoversState, InsideState, After}
+use Rattle.steps.specs.Step.{operandRows, operandNumbers, result, step, plainStep}
+use Rattle.tables.specs.Demand.{After}
+use Rattle.steps.specs.States.{StateFits, CoversState, InsideState}
 use Rattle.tables.proofs.Fits.{Fit, FitRecord}
 use Rattle.tables.proofs.PutAll.{FitPut, fits-all, others-all, targets-all, covers-all, inside-all, numbers-other, numbers-all}
 

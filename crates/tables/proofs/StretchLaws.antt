@@ -13,9 +13,9 @@ use Rattle.operations.specs.Record.{wordsOf, effectsOf}
 use Rattle.checks.specs.Table.{State, Table, startOf, recordOf}
 use Rattle.checks.specs.Accepted.{RecordPassed, TablePassed, Accepted}
 use Rattle.checks.specs.Model.{lent}
-use Rattle.tables.specs.Step.{Program, step, after}
+use Rattle.steps.specs.Step.{Program, step, after}
 use Rattle.tables.specs.Run.{programOf}
-use Rattle.tables.specs.Demand.{StateFits}
+use Rattle.steps.specs.States.{StateFits}
 use Rattle.tables.specs.Encoding.{StepReady, StretchReady}
 use Rattle.tables.proofs.Lists.{inside-part}
 use Rattle.tables.proofs.Points.{after-fits}

@@ -9,13 +9,15 @@ use Rattle.operations.specs.Record.{widthAt}
 use Rattle.bits.specs.Limits.{widthLimit}
 use Rattle.checks.specs.Table.{State}
 use Rattle.checks.specs.Accepted.{RecordPassed}
-use Rattle.tables.specs.Demand.{StateFits}
-use Rattle.operations.specs.Kind.{Use, asRow, asNumber, unused}
+use Rattle.steps.specs.States.{StateFits}
+use Rattle.operations.specs.Kind.{Use, asRow, asNumber, asCount, asBase, unused}
 
 -- the row that a word names, 0 where it names none
 abbrev pub usedRow : Use → ℕ → ℕ
 usedRow asRow word = word
 usedRow asNumber word = 0
+usedRow asCount word = 0
+usedRow asBase word = 0
 usedRow unused word = 0
 
 -- what an accepted table gives a record's step: rows 1 to 32 bits wide and well formed, and a record that passed checks 6 to 9

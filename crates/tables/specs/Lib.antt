@@ -1,5 +1,4 @@
 -- The definitions of `tables`.
-pub mod Step
 pub mod Run
 pub mod Demand
 pub mod Encoding

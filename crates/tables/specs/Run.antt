@@ -13,7 +13,7 @@ use Rattle.operations.specs.Record.{Effect, effectsOf}
 use Rattle.checks.specs.Check.{Answer, done, refused, verdict}
 use Rattle.checks.specs.Table.{State, rowAt, Table, startOf, withRows, recordCount, recordOf}
 use Rattle.checks.specs.Checks.{runChecks, countChecks}
-use Rattle.tables.specs.Step.{Program, after, plainAfter}
+use Rattle.steps.specs.Step.{Program, after, plainAfter}
 
 abbrev pub effectsAt : Table → ℕ → List Effect
 effectsAt t i = effectsOf (t .widths) (recordOf t i)

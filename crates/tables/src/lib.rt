@@ -12,7 +12,8 @@ use operations::RECORD_WORDS;
 use stepping::step_all;
 use table_checks::check_count;
 use table_checks::check_run;
-ghost use Rattle.tables.specs.Model.{held, runModel, ran, countModel};
+ghost use Rattle.tables.specs.Model.{runModel, ran, countModel};
+ghost use Rattle.steps.specs.States.{held};
 
 pub mod stepping; // stepping.rt: what records do to the rows
 

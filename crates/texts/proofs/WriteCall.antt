@@ -2,7 +2,7 @@
 --   size-refused, size-done                size;   rows-short, records-short   what the two counting loops need
 --   written                                what write leaves where it is not refused
 --   write-refused, write-short, write-done   write
---   rows-fit, rows-room, records-fit, records-room   what the two writing loops need
+--   header-room, rows-fit, rows-room, records-fit, records-room   what the header and the two writing loops need
 use mathlib.Core.Path.{_≡_, sym, ap, ap₂, _∙_}
 use mathlib.Core.Bool.{Bool, cond}
 use mathlib.Core.List.{List, [], _∷_, _++_, append-nil}
@@ -11,10 +11,10 @@ use native.Mathlib.Nat.{zero-add}
 use native.Mathlib.Omega.{arith}
 use lib.Arith.{le→nltb}
 use lib.ListN.{length, getD, drop}
-use lib.Seq.{sets, sets-eq}
+use lib.Seq.{sets-eq}
 use borrow.Author.Tests.{lt-ltb}
 use Rattle.bits.specs.Limits.{widthLimit}
-use Rattle.operations.specs.Record.{fault}
+use Rattle.operations.specs.Faults.{fault}
 use Rattle.checks.specs.Check.{Answer, done, refused, verdict, placed}
 use Rattle.checks.specs.Table.{Table}
 use Rattle.checks.specs.Checks.{sizeChecks}
@@ -27,16 +27,17 @@ use Rattle.checks.proofs.Verdicts.{verdict-passed, verdict-refused, passed-appe
 use Rattle.checks.proofs.Accepts.{passed-of-table, table-of-answer, answer-of-table}
 use Rattle.grammar.specs.Limits.{textLimit}
 use Rattle.grammar.specs.Lists.{filled}
+use Rattle.grammar.specs.Words.{header3}
 use Rattle.grammar.specs.Print.{linesText, rowLines, recordLines, tableLines, textOf}
 use Rattle.texts.specs.Calls.{sizeOf, bufferShort, writeChecks, writtenAs, writeOf}
-use Rattle.grammar.proofs.WordUses.{words-length}
+use Rattle.grammar.proofs.RecordLines.{words-length}
 use Rattle.grammar.proofs.Sizes.{lines-append, text-length, rows-size, records-size}
 use Rattle.texts.specs.Model.{bytesModel}
 use Rattle.texts.specs.declared.BytesAnswer.{BytesAnswer}
 use Rattle.texts.specs.declared.BytesAnswer.the-variants.{Bytes, Refused as NotBytes}
 use Rattle.table_lines.specs.Print.{RowsFit, RecordsFit}
 use Rattle.printing.specs.Put.{Holds, Put}
-use Rattle.printing.proofs.Puts.{put-length, sets-append}
+use Rattle.printing.proofs.Puts.{put-length, begin, step, done as put-done}
 
 -- ---- what passing the checks gives
 
@@ -66,10 +67,10 @@ module _ (t : Table) (v : Verdict) (found : verdictModel v ≡ judged (sizeCheck
     pub records-short : RecordsFit (t .words) × (length (linesText (recordLines t)) ≤ textLimit)
     records-short = (printable t passed, omega (arith, records-size t passed, passed .records-most))
 
-    -- the bytes of the row lines and of the record lines, added
-    pub size-done : (n m : ℕ) → n ≡ length (linesText (rowLines t)) → m ≡ length (linesText (recordLines t)) → done (n + m) ≡ sizeOf t
+    -- the bytes of the header, of the row lines and of the record lines, added
+    pub size-done : (n m : ℕ) → n ≡ length (linesText (rowLines t)) → m ≡ length (linesText (recordLines t)) → done (length header3 + n + m) ≡ sizeOf t
     unfolding sizeOf
-    size-done n m f g = ap {B = Answer ℕ} done (ap₂ _+_ f g ∙ sym (text-length t)) ∙ sym (answer-of-table t (length (textOf t)) passed)
+    size-done n m f g = ap {B = Answer ℕ} done (ap₂ (λ (x y : ℕ). length header3 + x + y) f g ∙ sym (text-length t)) ∙ sym (answer-of-table t (length (textOf t)) passed)
 
 -- ---- write, by the answer a of size
 
@@ -109,9 +110,9 @@ module _ (t : Table) (out : List ℕ) (a : BytesAnswer) (found : bytesModel a �
         ∙ ap (λ (b : Bool). cond b (refused 14 0) (done (length (textOf t)))) (lt-ltb (length out) (length (textOf t)) (omega arith))))
 
     module _ (hold : n ≤ length out) where
-      whole : linesText (rowLines t) ++ linesText (recordLines t) ≡ textOf t
+      whole : header3 ++ (linesText (rowLines t) ++ (linesText (recordLines t) ++ [])) ≡ textOf t
       unfolding textOf tableLines
-      whole = sym (lines-append (rowLines t) (recordLines t))
+      whole = ap (λ (l : List ℕ). header3 ++ l) (ap (λ (l : List ℕ). linesText (rowLines t) ++ l) (append-nil (linesText (recordLines t))) ∙ sym (lines-append (rowLines t) (recordLines t)))
 
       long : length (textOf t) ≤ length out
       long = omega (arith, size-is .1)
@@ -121,26 +122,27 @@ module _ (t : Table) (out : List ℕ) (a : BytesAnswer) (found : bytesModel a �
           let P = size-is .0 in
           record { locks-length = P .locks-length; masks-length = P .masks-length; values-length = P .values-length; narrow = narrow t P }
 
-      pub rows-room : Holds out 0 (linesText (rowLines t))
-      rows-room = omega (arith, long, text-length t)
+      pub header-room : Holds out 0 header3
+      header-room = omega (arith, long, text-length t)
 
       pub records-fit : RecordsFit (t .words)
       records-fit = printable t (size-is .0)
 
-      module _ {mid : List ℕ} {at : ℕ} (p : Put out mid 0 at (linesText (rowLines t))) where
-        pub records-room : Holds mid at (linesText (recordLines t))
-        records-room = omega (arith, long, text-length t, p .ends, put-length p)
+      module _ {begun : List ℕ} {from : ℕ} (h : Put out begun 0 from header3) where
+        pub rows-room : Holds begun from (linesText (rowLines t))
+        rows-room = omega (arith, long, text-length t, h .ends, put-length h)
 
-        pub write-done : {new : List ℕ} {end : ℕ} → Put mid new at end (linesText (recordLines t)) → record { answer = done end; buffer = new } ≡ writeOf t out
-        write-done {new} {end} q =
-            let rows = linesText (rowLines t) in
-            let records = linesText (recordLines t) in
-            let end-is : end ≡ length (textOf t) = omega (arith, text-length t, p .ends, q .ends) in
-            let new-is : new ≡ filled (textOf t) out =
-            q .text
-            ∙ ap₂ (λ (o : List ℕ) (k : ℕ). sets o k records) (p .text) (p .ends)
-            ∙ sym (sets-append out 0 rows records)
-            ∙ ap (sets out 0) whole
-            ∙ sets-eq (textOf t) out 0 (omega (arith, long))
-            ∙ ap (λ (k : ℕ). textOf t ++ drop k out) (zero-add (length (textOf t))) in
-            (λ i. record { answer = done (end-is i); buffer = new-is i }) ∙ sym (written t out (size-is .0) long)
+        module _ {mid : List ℕ} {at : ℕ} (p : Put begun mid from at (linesText (rowLines t))) where
+          pub records-room : Holds mid at (linesText (recordLines t))
+          records-room = omega (arith, long, text-length t, h .ends, put-length h, p .ends, put-length p)
+
+          pub write-done : {new : List ℕ} {end : ℕ} → Put mid new at end (linesText (recordLines t)) → record { answer = done end; buffer = new } ≡ writeOf t out
+          write-done {new} {end} q =
+              let rows = linesText (rowLines t) in
+              let records = linesText (recordLines t) in
+              let w : Put out new 0 end (textOf t) =
+              put-done (step [] (step (records ++ []) (step (rows ++ (records ++ [])) (begin out 0 (textOf t) (header3 ++ (rows ++ (records ++ []))) whole) h) p) q) in
+              let end-is : end ≡ length (textOf t) = w .ends ∙ zero-add (length (textOf t)) in
+              let new-is : new ≡ filled (textOf t) out =
+              w .text ∙ sets-eq (textOf t) out 0 (omega (arith, long)) ∙ ap (λ (k : ℕ). textOf t ++ drop k out) (zero-add (length (textOf t))) in
+              (λ i. record { answer = done (end-is i); buffer = new-is i }) ∙ sym (written t out (size-is .0) long)

@@ -15,7 +15,7 @@ use Prim.Native.Nat.{ℕ, _*_}
 use lib.Dec.{ltb, eqb}
 use lib.ListN.{length, take}
 use Rattle.operations.specs.Limits.{recordWords}
-use Rattle.operations.specs.Record.{fault}
+use Rattle.operations.specs.Faults.{fault}
 use Rattle.checks.specs.Check.{Answer, done, refused, Check, verdict, placed}
 use Rattle.checks.specs.Table.{Table, recordCount}
 use Rattle.checks.specs.Checks.{sizeChecks, locksDiffer, masksDiffer, valuesDiffer}

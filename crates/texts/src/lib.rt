@@ -1,4 +1,4 @@
-// The text of a table: size, write, read and field (01, "Calls" and "Text").
+// The text of a table: size, write, read and field (01, "Calls" and "Text"; 02, request 11).
 ghost use mathlib.Core.Path.{_≡_};
 ghost use denote.Ref.{ptr};
 ghost use Rattle.checks.specs.Model.{lent};
@@ -15,10 +15,12 @@ use checks::refusals::LONG;
 use checks::refusals::ROOM;
 use grammar::LF;
 use grammar::TAB;
+use limits::HEADER_BYTES;
 use limits::TEXT_LIMIT;
 use lines::cut::part;
 use lines::opening::opening_of;
 use operations::RECORD_WORDS;
+use printing::put::put_word;
 use table_checks::check_table;
 use table_lines::fill::fill_records;
 use table_lines::fill::fill_rows;
@@ -48,7 +50,7 @@ pub fn size(width: &[u8], lock: &[u8], mask: &[u32], value: &[u32], words: &[u32
         Verdict::Passed => {
             let rows = rows_length(width, lock);
             let records = records_length(words);
-            BytesAnswer::Bytes(rows + records)
+            BytesAnswer::Bytes(HEADER_BYTES + rows + records)
         }
     }
 }
@@ -76,7 +78,8 @@ pub fn write(
                     place: 0,
                 });
             }
-            let at = put_rows(out, width, lock, mask, value);
+            let from = put_word(out, 0, b"edition\t3\n");
+            let at = put_rows(out, from, width, lock, mask, value);
             let end = put_records(out, at, words);
             BytesAnswer::Bytes(end)
         }

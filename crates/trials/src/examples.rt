@@ -1,4 +1,4 @@
-// The unstarred examples that need no text (01, "Worked examples"; 02, requests 2 and 4).
+// The unstarred examples that need no text (01, "Worked examples"; 02, requests 2, 4 and 11).
 use crate::Rows;
 use crate::answers;
 use crate::counting::Tally;
@@ -36,7 +36,7 @@ fn gives(kind: u64, w: u64, p: u64, a: Row, start: Row, end: Row, number: u32) -
     };
     let before = operand_and_target(a, start);
     let after = operand_and_target(a, end);
-    one(makes(s, 0, before, after, number))
+    one(makes(s, 0, 0, before, after, number))
 }
 
 // rotl 0X1 by 4 = X10.
@@ -73,17 +73,32 @@ fn with_itself(kind: u64) -> Tally {
 
 // ite of X and 1, and of 0 and X, with the row X also as its condition = X: the condition is chosen independently. As one number with a row it would give 1,
 // and 0.
-fn with_its_condition(a: Row, b: Row, condition: u64) -> Tally {
+fn with_its_condition(a: Row, b: Row, condition: u32) -> Tally {
     let s = Shape {
         kind: 20,
         wt: 1,
         wa: 1,
         wb: 1,
-        p: condition,
+        p: 0,
     };
     let before = table(a, b, row(0, 0), row(0, 0));
     let after = table(a, b, row(0, 0), row(1, 0));
-    one(makes(s, 1, before, after, 0))
+    one(makes(s, 1, condition, before, after, 0))
+}
+
+// ite with a parameter: refusal 8, before that of its widths.
+fn with_parameter() -> Tally {
+    refused(20, 2, 8)
+}
+
+// A load from row 0 on, of a table of four rows: refusal 7 past the table, also where n is near 2^32; 8 without a cell; 9 with cells of the widths 3, 1 and 1. A
+// store with a target word: refusal 8.
+fn memories_refused() -> Tally {
+    let span = joined(refused(24, 5, 7), refused(24, 4294967295, 7));
+    joined(
+        joined(refused(24, 0, 8), refused(24, 3, 9)),
+        joined(span, refused(25, 1, 8)),
+    )
 }
 
 // A wide product with a parameter: refusal 8. With a target as wide as one operand alone: refusal 9.
@@ -93,7 +108,7 @@ fn wide_refused(kind: u64) -> Tally {
 
 // The first kind that is unknown: refusal 6.
 fn kind_over() -> Tally {
-    refused(24, 0, 6)
+    refused(26, 0, 6)
 }
 
 // 256 rows accepted.
@@ -102,7 +117,7 @@ fn most_rows() -> Tally {
     let lock = [0u8; 256];
     let mut mask = [1u32; 256];
     let mut value = [0u32; 256];
-    let words = [0u32, 255, 0, 0, 0];
+    let words = [0u32, 255, 0, 0, 0, 0];
     let answer = tables::run(&width, &lock, &mut mask, &mut value, &words, 0, 1);
     one(answers(answer, 0))
 }
@@ -117,6 +132,8 @@ pub fn examples() -> Tally {
     tally = joined(tally, wide_refused(21));
     tally = joined(tally, wide_refused(22));
     tally = joined(tally, wide_refused(23));
+    tally = joined(tally, with_parameter());
+    tally = joined(tally, memories_refused());
     tally = joined(tally, kind_over());
     joined(tally, most_rows())
 }

@@ -8,6 +8,7 @@ use oracle::choices::enumerated_twice;
 use oracle::numbers::byte;
 use oracle::numbers::word;
 use oracle::shapes::Shape;
+use oracle::shapes::uses_condition;
 use oracle::shapes::uses_second;
 use tables::RunAnswer;
 
@@ -35,11 +36,16 @@ fn widths(s: Shape) -> [u8; 4]
     [byte(s.wa), byte(s.wb), 1, byte(s.wt)]
 }
 
-// The record, with the second operand's word as it is given.
-fn record(s: Shape, second: u32) -> [u32; 5]
-    ensures { λ r. ⌜ 5 ≡ length r ⌝ }
+// The record, with the second operand's word and the sixth word as they are given.
+fn record(s: Shape, second: u32, sixth: u32) -> [u32; 6]
+    ensures { λ r. ⌜ 6 ≡ length r ⌝ }
 {
-    [word(s.kind), 3, 0, second, word(s.p)]
+    [word(s.kind), 3, 0, second, word(s.p), sixth]
+}
+
+// The sixth word: the condition's row, or 0.
+fn sixth_word(kind: u64) -> u32 {
+    if uses_condition(kind) { 2 } else { 0 }
 }
 
 // Whether run answers 1, that is all of one record. With a number other than 0: whether it answers that refusal, of record 0.
@@ -76,9 +82,9 @@ pub fn same(a: &[u32; 4], b: &[u32; 4]) -> bool {
 }
 
 // Whether run makes the rows after of those before, or refuses with this number where it is not 0.
-fn makes(s: Shape, second: u32, before: Rows, after: Rows, number: u32) -> bool {
+fn makes(s: Shape, second: u32, sixth: u32, before: Rows, after: Rows, number: u32) -> bool {
     let width = widths(s);
-    let words = record(s, second);
+    let words = record(s, second, sixth);
     let lock = [0u8; 4];
     let mut mask = before.mask;
     let mut value = before.value;
@@ -101,7 +107,9 @@ fn leaves(s: Shape, second: u32, a: Row, b: Row, c: Row, result: Row) -> bool {
         mask: 1 - result.mask % 2,
         value: 0,
     };
-    makes(s, second, table(a, b, c, start), table(a, b, c, result), 0)
+    let before = table(a, b, c, start);
+    let after = table(a, b, c, result);
+    makes(s, second, sixth_word(s.kind), before, after, 0)
 }
 
 // Whether run and the enumeration agree where the operand words name two rows.

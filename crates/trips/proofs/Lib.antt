@@ -3,3 +3,4 @@ pub mod RoundTrips
 pub mod TripCalls
 pub mod Worked
 pub mod Listings
+pub mod Olders

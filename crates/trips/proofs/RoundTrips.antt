@@ -1,14 +1,14 @@
--- Demand 2 on texts: what was written reads back as that table, and what was read is written as its three-letter meaning. Assumes nothing.
+-- Demand 2 on texts: what was written reads back as that table, and what was read is written as its edition-3 form. Assumes nothing.
 --   write-of-answer   what a write that is not refused says of the table and the buffer
 --   table-back        the text that was written is read as that table, the rest of the slices untouched
---   meaning-back      the table that was read is written as the meaning of the text, the rest of the buffer untouched
+--   form-back      the table that was read is written as the edition-3 form of the text, the rest of the buffer untouched
 use mathlib.Core.Path.{_≡_, refl, sym, ap, _∙_}
 use mathlib.Core.List.{List, [], _∷_, _++_}
 use Prim.Native.Nat.{ℕ, _≤_}
 use native.Mathlib.Omega.{arith}
 use lib.Dec.{nltb→le}
 use lib.ListN.{length, take}
-use Rattle.operations.specs.Record.{fault}
+use Rattle.operations.specs.Faults.{fault}
 use Rattle.checks.specs.Check.{Answer, done, refused, verdict, Passed, placed}
 use Rattle.checks.specs.Table.{Table}
 use Rattle.checks.specs.Checks.{sizeChecks}
@@ -25,7 +25,7 @@ use Rattle.texts.specs.Calls.{bufferShort, writeChecks, Written, writtenAs, wri
 use Rattle.texts.proofs.ReadChecks.{ReadPassed, read-of-answer, answer-of-read}
 use Rattle.texts.proofs.ReadLeft.{part-back, read-parts}
 use Rattle.texts.proofs.WriteCall.{written}
-use Rattle.trips.specs.Trips.{Roomy, TableBack, MeaningBack}
+use Rattle.trips.specs.Trips.{Roomy, TableBack, FormBack}
 
 -- ---- a write that is not refused
 
@@ -44,7 +44,7 @@ write-of-answer t out n e =
 
 -- ---- written, then read
 
--- 256 rows and 1,024 records have at most 35,840 bytes
+-- 256 rows and 1,024 records have at most 38,922 bytes
 text-read : (t lent : Table) → TablePassed t → Roomy t lent → ReadPassed (textOf t) lent
 text-read t lent P R =
     let same = text-table t P in
@@ -72,8 +72,8 @@ table-back t out lent k e n e′ R =
 
 -- ---- read, then written
 
-pub meaning-back : (text : List ℕ) (lent : Table) (out : List ℕ) (c : Counts) → readOf text lent .answer ≡ done c → MeaningBack text lent out (writeOf (firstOf c (readOf text lent .slices)) out)
-meaning-back text lent out c e c′ e′ n w =
+pub form-back : (text : List ℕ) (lent : Table) (out : List ℕ) (c : Counts) → readOf text lent .answer ≡ done c → FormBack text lent out (writeOf (firstOf c (readOf text lent .slices)) out)
+form-back text lent out c e c′ e′ n w =
     let t = read-parts text lent c e in
     let t′ = read-parts text lent c′ e′ in
     let P = write-of-answer (tableRead text) out n (sym (ap (λ (x : Table). writeOf x out .answer) t′) ∙ w) in

@@ -1,6 +1,6 @@
 -- The round trips over the calls: what each way out has to show. Assumes nothing.
 --   write-room, table-trip, not-written   written, then read
---   meaning-trip, not-read, bytes-trip    read, then written
+--   form-trip, not-read, bytes-trip    read, then written
 use mathlib.Core.Path.{_≡_, sym, ap, _∙_}
 use mathlib.Core.List.{List}
 use Prim.Native.Nat.{ℕ, _≤_}
@@ -11,7 +11,7 @@ use Rattle.checks.specs.Table.{Table}
 use Rattle.checks.specs.declared.Refusal.{Refusal}
 use Rattle.grammar.specs.Lists.{filled}
 use Rattle.grammar.specs.Print.{textOf}
-use Rattle.grammar.proofs.Meanings.{meaning-same}
+use Rattle.grammar.proofs.Forms.{form-same}
 use Rattle.texts.specs.Calls.{Written, writeOf, ReadBack, readOf, firstOf}
 use Rattle.texts.specs.Model.{bytesModel, writeLeft, readModel, readLeft}
 use Rattle.texts.specs.declared.BytesAnswer.{BytesAnswer}
@@ -20,8 +20,8 @@ use Rattle.texts.specs.declared.ReadAnswer.{ReadAnswer}
 use Rattle.texts.specs.declared.ReadAnswer.the-variants.{Read, Refused as NotRead}
 use Rattle.texts.proofs.ReadLeft.{read-answered}
 use Rattle.texts.proofs.WriteCall.{written}
-use Rattle.trips.specs.Trips.{TableBack, MeaningBack, BytesBack}
-use Rattle.trips.proofs.RoundTrips.{write-of-answer, table-back, meaning-back}
+use Rattle.trips.specs.Trips.{TableBack, FormBack, BytesBack}
+use Rattle.trips.proofs.RoundTrips.{write-of-answer, table-back, form-back}
 
 -- ---- written, then read: by the answer a of write and the buffer that it leaves
 
@@ -57,19 +57,19 @@ module _ (text : List ℕ) (lent : Table) (a : ReadAnswer) {new : Table} (found 
   read-is : readModel a ≡ readOf text lent .answer
   read-is = ap (λ (x : ReadBack). x .answer) found
 
-  pub not-read : (r : Refusal) → a ≡ NotRead r → (out : List ℕ) (got : Written) → MeaningBack text lent out got
+  pub not-read : (r : Refusal) → a ≡ NotRead r → (out : List ℕ) (got : Written) → FormBack text lent out got
   not-read r is out got c w n v =
       let same : refused (r .number) (r .place) ≡ done c = sym (ap readModel is) ∙ read-is ∙ w in
       let z : _≡_ {A = ℕ} 0 1 = cc in
       absurd (omega arith)
 
   module _ (rows records : ℕ) (is : a ≡ Read rows records) where
-    pub meaning-trip : (out : List ℕ) (got : Written) → got ≡ writeOf (firstOf (record { rows = rows; records = records }) new) out → MeaningBack text lent out got
-    meaning-trip out got g k w n v =
+    pub form-trip : (out : List ℕ) (got : Written) → got ≡ writeOf (firstOf (record { rows = rows; records = records }) new) out → FormBack text lent out got
+    form-trip out got g k w n v =
         g
         ∙ ap (λ (x : ReadBack). writeOf (firstOf (record { rows = rows; records = records }) (x .slices)) out) found
-        ∙ meaning-back text lent out (record { rows = rows; records = records }) (read-answered text lent a found rows records is) k w n v
+        ∙ form-back text lent out (record { rows = rows; records = records }) (read-answered text lent a found rows records is) k w n v
 
--- a text without a header means itself
-pub bytes-trip : (text : List ℕ) (lent : Table) (out : List ℕ) (got : Written) → MeaningBack text lent out got → BytesBack text lent out got
-bytes-trip text lent out got h bare c w n v = h c w n v ∙ ap (λ (x : List ℕ). record { answer = done (length x); buffer = filled x out }) (meaning-same text bare)
+-- a text of edition 3 is its own form
+pub bytes-trip : (text : List ℕ) (lent : Table) (out : List ℕ) (got : Written) → FormBack text lent out got → BytesBack text lent out got
+bytes-trip text lent out got h third c w n v = h c w n v ∙ ap (λ (x : List ℕ). record { answer = done (length x); buffer = filled x out }) (form-same text third)

@@ -1,6 +1,6 @@
 // The round trips through the text over the calls themselves (demand 2): each contract is the round trip.
 ghost use Rattle.checks.specs.Model.{lent};
-ghost use Rattle.trips.specs.Trips.{TableBack, MeaningBack, BytesBack};
+ghost use Rattle.trips.specs.Trips.{TableBack, FormBack, BytesBack};
 ghost use Rattle.texts.specs.Model.{writeLeft, readLeft};
 use operations::RECORD_WORDS;
 use texts::BytesAnswer;
@@ -35,7 +35,7 @@ pub fn write_then_read(
     }
 }
 
-// A text that is read into the slices, of any edition, is written from there into `out` as its three-letter meaning.
+// A text that is read into the slices, of any edition, is written from there into `out` as its edition-3 form.
 pub fn listing_then_write(
     text: &[u8],
     width: &mut [u8],
@@ -47,7 +47,7 @@ pub fn listing_then_write(
 ) -> BytesAnswer
     ensures { λ r.
         let slices = lent (now (width .entry)) (now (lock .entry)) (now (mask .entry)) (now (value .entry)) (now (words .entry)) in
-        ⌜ MeaningBack (now (text .entry)) slices (now (out .entry)) (writeLeft r (now (out .exit))) ⌝ }
+        ⌜ FormBack (now (text .entry)) slices (now (out .entry)) (writeLeft r (now (out .exit))) ⌝ }
 {
     let found = read(text, width, lock, mask, value, words);
     match found {
@@ -66,7 +66,7 @@ pub fn listing_then_write(
     }
 }
 
-// A text without a header that is read into the slices is written back from there into `out`.
+// A text of edition 3 that is read into the slices is written back from there into `out`.
 pub fn read_then_write(
     text: &[u8],
     width: &mut [u8],

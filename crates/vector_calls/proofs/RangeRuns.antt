@@ -13,10 +13,11 @@ use Rattle.range_search.specs.declared.Range.{Range}
 use Rattle.range_search.specs.Range.{Between, Ranged}
 use Rattle.checks.specs.Table.{State, rowAt, Table, startOf}
 use Rattle.checks.specs.Accepted.{Accepted}
-use Rattle.tables.specs.Step.{put}
+use Rattle.steps.specs.Step.{put}
 use Rattle.tables.specs.Run.{pointRows}
-use Rattle.tables.specs.Demand.{StateFits, CoversState, Demand3}
-use Rattle.tables.proofs.Put.{row-same, row-other, fits-put}
+use Rattle.tables.specs.Demand.{Demand3}
+use Rattle.steps.specs.States.{StateFits, CoversState}
+use Rattle.steps.proofs.Put.{row-same, row-other, fits-put}
 use Rattle.tables.proofs.Demand3.{accepted-of-run, start-fits, accepted-with, demand3}
 use Rattle.vector_calls.specs.RangeRuns.{putRow, RunOn, RunsOn}
 

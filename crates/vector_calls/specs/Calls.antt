@@ -8,7 +8,7 @@ use Prim.Native.Nat.{ℕ}
 use Rattle.vectors.specs.Row.{Row, row}
 use Rattle.vectors.specs.declared.OutputBit.{OutputBit}
 use Rattle.vectors.specs.OutputBits.{outputBit}
-use Rattle.operations.specs.Record.{Fault}
+use Rattle.operations.specs.Faults.{Fault}
 use Rattle.operations.specs.Arithmetic.{opMul}
 use Rattle.operations.specs.Result.{resultOf}
 use Rattle.checks.specs.Check.{Answer, Check, verdict, placed}

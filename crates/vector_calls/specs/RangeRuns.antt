@@ -9,9 +9,9 @@ use lib.ListN.{length, getD}
 use Rattle.vectors.specs.Row.{Row}
 use Rattle.checks.specs.Check.{done}
 use Rattle.checks.specs.Table.{rowAt, Table, startOf, withRows}
-use Rattle.tables.specs.Step.{put}
+use Rattle.steps.specs.Step.{put}
 use Rattle.tables.specs.Run.{runOf, pointRows, plainRun}
-use Rattle.tables.specs.Demand.{CoversState}
+use Rattle.steps.specs.States.{CoversState}
 
 abbrev pub putRow : Table → ℕ → Row → Table
 putRow t i x = withRows t (put (startOf t) i x)

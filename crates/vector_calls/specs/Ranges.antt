@@ -10,7 +10,7 @@ use mathlib.Core.List.{List, [], _∷_, _++_}
 use Prim.Native.Nat.{ℕ, _^_}
 use lib.Dec.{leb, ltb}
 use Rattle.vectors.specs.Row.{row}
-use Rattle.operations.specs.Record.{Fault, fault}
+use Rattle.operations.specs.Faults.{Fault, fault}
 use Rattle.range_search.specs.declared.Range.{Range}
 use Rattle.range_search.specs.Range.{Between, noneBetween, rangeIn}
 use Rattle.checks.specs.Check.{Answer, Check, verdict, placed, Passed}

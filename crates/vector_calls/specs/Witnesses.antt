@@ -8,7 +8,7 @@ use mathlib.Core.List.{List, [], _∷_, _++_}
 use Prim.Native.Nat.{ℕ}
 use Rattle.bits.specs.Bit.{isSet}
 use Rattle.operations.specs.Kinds.{kindOf}
-use Rattle.operations.specs.Record.{Fault, fault}
+use Rattle.operations.specs.Faults.{Fault, fault}
 use Rattle.operations.specs.Result.{resultOf}
 use Rattle.witness_search.specs.declared.Pair.{Pair}
 use Rattle.witness_search.specs.Witness.{addSubMul, plainOf, Makes}

@@ -1,8 +1,11 @@
 -- Laws of properties along lists. Assumes nothing.
-use mathlib.Core.Path.{sym, subst}
+use mathlib.Core.Path.{_≡_, refl, sym, ap, subst}
+use mathlib.Core.Bool.{Bool, true, false, not, _&&_, _||_}
 use mathlib.Core.Logic.{inl, inr}
 use mathlib.Core.List.{List, [], _∷_, map, List·Memᴰ, List·Memᴰ·not-nil, List·Memᴰ·cases-cons}
-use Rattle.vectors.specs.Lists.{All, Pointwise}
+use lib.Dec.{T}
+use Rattle.bits.proofs.Bools.{T-and, T-left, T-right}
+use Rattle.vectors.specs.Lists.{All, Pointwise, allOf, someOf}
 
 -- what holds of each element, written in a row
 infixr 1 _⨾_
@@ -40,3 +43,44 @@ all-member P (b ∷ l) q d = elim (List·Memᴰ·cases-cons d) [ inl e ↦ subst
 pub pointwise-map : {A B C : Type 0} {Q : A → Type 0} (R : B → C → Type 0) (g : A → B) (g′ : A → C) → ((a : A) → Q a → R (g a) (g′ a)) → (l : List A) → All Q l → Pointwise R (map g l) (map g′ l)
 pointwise-map R g g′ h [] q = tt
 pointwise-map R g g′ h (a ∷ l) q = (h a (q .0), pointwise-map R g g′ h l (q .1))
+
+-- ---- tests
+
+pub allOf-all : {A : Type 0} (p : A → Bool) (l : List A) → T (allOf p l) → All (λ a. T (p a)) l
+unfolding allOf
+allOf-all p [] t = tt
+allOf-all p (a ∷ l) t = (T-left (p a) (allOf p l) t, allOf-all p l (T-right (p a) (allOf p l) t))
+
+pub all-allOf : {A : Type 0} (p : A → Bool) (l : List A) → All (λ a. T (p a)) l → T (allOf p l)
+unfolding allOf
+all-allOf p [] q = tt
+all-allOf p (a ∷ l) q = T-and (p a) (allOf p l) (q .0) (all-allOf p l (q .1))
+
+pub allOf-mapped : {A B : Type 0} (p : B → Bool) (f : A → B) (l : List A) → allOf p (map f l) ≡ allOf (λ a. p (f a)) l
+unfolding allOf
+allOf-mapped p f [] = refl
+allOf-mapped p f (a ∷ l) = ap (λ (b : Bool). p (f a) && b) (allOf-mapped p f l)
+
+-- two tests that agree
+pub allOf-same : {A : Type 0} (p q : A → Bool) → ((a : A) → p a ≡ q a) → (l : List A) → allOf p l ≡ allOf q l
+unfolding allOf
+allOf-same p q e [] = refl
+allOf-same p q e (a ∷ l) = λ ι. e a ι && allOf-same p q e l ι
+
+neither : (a b : Bool) → T (not (a || b)) → T (not a) × T (not b)
+neither true b t = absurd t
+neither false b t = (tt, t)
+
+not-either : (a b : Bool) → T (not a) → T (not b) → T (not (a || b))
+not-either true b t u = absurd t
+not-either false b t u = u
+
+pub none-all : {A : Type 0} (p : A → Bool) (l : List A) → T (not (someOf p l)) → All (λ a. T (not (p a))) l
+unfolding someOf
+none-all p [] t = tt
+none-all p (a ∷ l) t = let n = neither (p a) (someOf p l) t in (n .0, none-all p l (n .1))
+
+pub all-none : {A : Type 0} (p : A → Bool) (l : List A) → All (λ a. T (not (p a))) l → T (not (someOf p l))
+unfolding someOf
+all-none p [] q = tt
+all-none p (a ∷ l) q = not-either (p a) (someOf p l) (q .0) (all-none p l (q .1))

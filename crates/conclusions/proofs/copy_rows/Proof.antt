@@ -5,7 +5,7 @@ use native.Mathlib.Omega.{arith}
 use lib.ListN.{length, getD}
 use lib.Bits.{bitXor, xor-zero-r}
 use borrow.Author.Needs.{needs}
-use Rattle.tables.specs.Model.{held}
+use Rattle.steps.specs.States.{held}
 use Rattle.conclusions.proofs.Copies.{Copied, copied-start, copied-next, copied-end}
 use Rattle.conclusions.proofs.copy_rows.Statement.{statement}
 use Rattle.conclusions.proofs.copy_rows.Tie as tie

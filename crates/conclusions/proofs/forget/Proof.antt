@@ -4,7 +4,7 @@ use Prim.Native.Nat.{ℕ}
 use lib.ListN.{getD, set}
 use lib.Bits.{bitOr, bitXor}
 use Rattle.bits.proofs.Words.{shifted-one}
-use Rattle.tables.specs.Model.{held}
+use Rattle.steps.specs.States.{held}
 use borrow.Author.Needs.{needs}
 use Rattle.conclusions.proofs.forget.Statement.{statement}
 use Rattle.conclusions.proofs.forget.Tie as tie

@@ -1,7 +1,8 @@
 -- `evaluation::print_table` meets its contract: run, then the table's text or the refusal's line. Assumes nothing.
 use mathlib.Core.Path.{sym, ap, _∙_}
 use Rattle.checks.specs.Model.{lent}
-use Rattle.tables.specs.Model.{held, ran}
+use Rattle.tables.specs.Model.{ran}
+use Rattle.steps.specs.States.{held}
 use Rattle.tables.specs.declared.RunAnswer.{RunAnswer}
 use Rattle.texts.specs.Model.{writeLeft}
 use Rattle.texts.specs.declared.BytesAnswer.{BytesAnswer}

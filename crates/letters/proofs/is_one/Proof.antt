@@ -14,5 +14,10 @@ returns-2 c =
     let t = c .before .before in
     let a = t .before .before .args in in-edition (λ l. l .ones) (a .b) (a .e) _ (c .is-among2 .result) (t .enum-told2 .given .1) (c .is-among2 .ensures)
 
+returns-3 : tie.Need-returns-3
+returns-3 c =
+    let t = c .before .before in
+    let a = t .before .before .args in in-edition (λ l. l .ones) (a .b) (a .e) _ (c .is-among3 .result) (t .enum-told3 .given .1) (c .is-among3 .ensures)
+
 pub is-one-spec : {M : Type 1} → statement M
-is-one-spec = tie.close (tie.spec (λ c. search needs) (λ c. search needs) (λ c κs. search needs) (λ c. search needs) (λ c. search needs) (λ c κs. search needs) returns returns-2)
+is-one-spec = tie.close (tie.spec (λ c. search needs) (λ c. search needs) (λ c κs. search needs) (λ c. search needs) (λ c. search needs) (λ c κs. search needs) (λ c. search needs) (λ c. search needs) (λ c κs. search needs) returns returns-2 returns-3)

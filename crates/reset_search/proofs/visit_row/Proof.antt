@@ -5,7 +5,7 @@ use Prim.Native.Nat.{_-_}
 use lib.ListN.{length}
 use Rattle.checks.specs.Table.{Table}
 use Rattle.checks.specs.Model.{lent}
-use Rattle.tables.specs.Model.{held}
+use Rattle.steps.specs.States.{held}
 use Rattle.tables.proofs.Demand3.{start-fits}
 use Rattle.tables.proofs.FullRuns.{accepted-from}
 use Rattle.conclusions.specs.Encoding.{TrialRows}

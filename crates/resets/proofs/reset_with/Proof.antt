@@ -6,7 +6,7 @@ use lib.ListN.{getD}
 use Rattle.bits.specs.Bit.{bit}
 use Rattle.checks.specs.Table.{State, Table, startOf}
 use Rattle.checks.specs.Model.{lent}
-use Rattle.tables.specs.Model.{held}
+use Rattle.steps.specs.States.{held}
 use Rattle.tables.specs.Run.{fullRun}
 use Rattle.tables.proofs.Demand3.{start-fits}
 use Rattle.conclusions.proofs.Copies.{copyable}

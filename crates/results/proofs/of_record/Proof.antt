@@ -9,6 +9,7 @@ use Rattle.vectors.specs.Row.{Row, row}
 use Rattle.operations.specs.Kinds.{kindOf}
 use Rattle.operations.specs.Record.{wordsOf, operands, namedTwice}
 use Rattle.operations.specs.Result.{resultOf, resultOnce}
+use mathlib.Core.List.{[], _∷_}
 use Rattle.kernels.proofs.Dispatch.{Given}
 use Rattle.results.proofs.DoubledArms.{Due, due-and, due-or, concat-ready, due-concat, shift-ready, due-add, due-eq, due-ite, due-zeros}
 use Rattle.results.proofs.of_record.Statement.{statement}
@@ -26,14 +27,14 @@ given s =
       ra = row (a .wa) (a .ma) (a .va);
       rb = row (a .wb) (a .mb) (a .vb);
       rc = row 1 (a .mc) (a .vc);
-      ready = s .pre .0 .3;
+      ready = s .pre .0 .4;
     }
 
 -- the result that the contract asks for, where it is known whether one row is named twice
 abbrev Asked : tie.Start → Bool → Row
 Asked s b =
     let g = given s in
-    resultOnce b (kindOf (g .kind)) (g .wt) (g .p) (operands (kindOf (g .kind)) (g .ra) (g .rb) (g .rc))
+    resultOnce b (kindOf (g .kind)) (g .wt) (g .p) (operands (kindOf (g .kind)) (g .ra) (g .rb) (g .rc ∷ []))
 
 asked : (s : tie.Start) {b : Bool} → namedTwice (wordsOf (s .args .r)) ≡ b → {r : Row} → r ≡ Asked s b → r ≡ Asked s (namedTwice (wordsOf (s .args .r)))
 asked s e f = f ∙ ap (Asked s) (sym e)
@@ -75,8 +76,8 @@ of-record-spec =
     (λ c κs. search needs)
     (λ c κs. search needs)
     returns
-    (λ c κs. (start (c .before) .pre .0 .1, concat-ready (given (start (c .before))) (same (c .before)) (c .match .keys3)))
-    (λ c κs. (start (c .before) .pre .0 .1, shift-ready (given (start (c .before))) (same (c .before)) _ tt (c .match .keys4)))
+    (λ c κs. (start (c .before) .pre .0 .2, concat-ready (given (start (c .before))) (same (c .before)) (c .match .keys3)))
+    (λ c κs. (start (c .before) .pre .0 .2, shift-ready (given (start (c .before))) (same (c .before)) _ tt (c .match .keys4)))
     (λ c. due (c .before) (due-and (given (start (c .before))) (same (c .before)) (c .match .keys1)))
     (λ c. due (c .before) (due-or (given (start (c .before))) (same (c .before)) (c .match .keys2)))
     (λ c. due (c .before .before) (c .concat .ensures ∙ due-concat (given (start (c .before .before))) (same (c .before .before)) (c .before .match .keys3)))

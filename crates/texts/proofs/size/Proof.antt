@@ -21,8 +21,9 @@ records-length-requires c κs =
     let t = lent (s .args .width .now) (s .args .lock .now) (s .args .mask .now) (s .args .value .now) (s .args .words .now) in
     records-short t (v .check-table .result) (v .check-table .ensures) (e .enum-told .given .1)
 
-add-t11 : tie.Need-add-t11
-add-t11 c =
+-- all three together are far below the greatest usize
+add-t12 : tie.Need-add-t12
+add-t12 c =
     let e = c .before .before in
     let v = e .before .before in
     let s = v .before .before .before .before .before .before in
@@ -60,6 +61,7 @@ size-spec =
     (λ c. search needs)
     rows-length-requires
     records-length-requires
-    add-t11
+    (λ c. omega (arith, add-t12 c))
+    add-t12
     returns
     returns-2)

@@ -5,7 +5,7 @@ use lib.Seq.{length-take-le}
 use Rattle.checks.specs.Table.{Table}
 use Rattle.checks.specs.Model.{lent}
 use Rattle.texts.proofs.ReadLeft.{Room, read-room}
-use Rattle.trips.proofs.TripCalls.{not-read, meaning-trip}
+use Rattle.trips.proofs.TripCalls.{not-read, form-trip}
 use borrow.Author.Needs.{needs}
 use Rattle.trips.proofs.listing_then_write.Statement.{statement}
 use Rattle.trips.proofs.listing_then_write.Tie as tie
@@ -67,7 +67,7 @@ returns-2 c =
     let w = c .before .before in
     let f = w .before .before .before .before .before .before .before .before in
     let r = f .before .before .before .before .before .before .before .before .before .before .before .before in
-    meaning-trip (start r .args .text .now) (slices r) (r .read .result) {new = left r} (r .read .ensures) _ _ (f .found2 .given .1) (start r .args .out .now) _ (w .write .ensures)
+    form-trip (start r .args .text .now) (slices r) (r .read .result) {new = left r} (r .read .ensures) _ _ (f .found2 .given .1) (start r .args .out .now) _ (w .write .ensures)
 
 pub listing-then-write-spec : {M : Type 1} → statement M
 listing-then-write-spec =

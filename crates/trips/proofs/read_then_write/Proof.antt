@@ -1,4 +1,4 @@
--- `trips::read_then_write`: a text without a header means itself. Assumes nothing.
+-- `trips::read_then_write`: a text of edition 3 is its own form. Assumes nothing.
 use Rattle.trips.proofs.TripCalls.{bytes-trip}
 use borrow.Author.Needs.{needs}
 use Rattle.trips.proofs.read_then_write.Statement.{statement}

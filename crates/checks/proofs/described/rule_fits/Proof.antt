@@ -12,8 +12,8 @@ use Rattle.checks.proofs.described.rule_fits.Statement.{statement}
 use Rattle.checks.proofs.described.rule_fits.Tie as tie
 
 -- what the rule reads, once its code is known
-reads : (s : tie.Start) (n : ℕ) → s .args .code ≡ n → Reads (ruleNumbered n) (length (s .args .width .now)) (s .args .b) (s .args .p)
-reads s n e = subst (λ (m : ℕ). Reads (ruleNumbered m) (length (s .args .width .now)) (s .args .b) (s .args .p)) e (s .pre .4)
+reads : (s : tie.Start) (n : ℕ) → s .args .code ≡ n → Reads (ruleNumbered n) (length (s .args .width .now)) (s .args .b) (s .args .c)
+reads s n e = subst (λ (m : ℕ). Reads (ruleNumbered m) (length (s .args .width .now)) (s .args .b) (s .args .c)) e (s .pre .4)
 
 width-at-requires : tie.Need-width-at-requires
 width-at-requires c κs = reads (c .before .before) 1 (c .match .keys2)

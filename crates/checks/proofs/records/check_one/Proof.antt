@@ -1,15 +1,15 @@
 -- `checks::records::check_one` meets its contract: checks 6 to 9 of the record that the words hold, then 10. Assumes nothing.
-use mathlib.Core.Path.{_≡_, sym, ap, _∙_}
+use mathlib.Core.Path.{_≡_, sym, ap, subst, _∙_}
 use mathlib.Core.List.{List, []}
 use Prim.Native.Nat.{ℕ}
-use native.Mathlib.Omega.{arith}
-use Rattle.operations.specs.Record.{wordsOf, recordFaults}
+use Rattle.operations.specs.Record.{wordsOf}
+use Rattle.operations.specs.Faults.{recordFaults}
 use Rattle.checks.specs.Check.{Check, placed}
 use Rattle.checks.specs.Table.{recordOf}
 use Rattle.checks.specs.Model.{lent, verdictModel, judged}
-use Rattle.checks.specs.Encoding.{lockWith}
+use Rattle.checks.specs.Encoding.{TargetsIn, lockWith}
 use Rattle.checks.proofs.Verdicts.{passed-of-done}
-use Rattle.checks.proofs.RowChecks.{record-of-passed}
+use Rattle.checks.proofs.RecordChecks.{record-of-passed, targets-within}
 use Rattle.checks.proofs.VerdictParts.{goes-on, stops}
 use borrow.Author.Needs.{needs}
 use Rattle.checks.proofs.records.check_one.Statement.{statement}
@@ -42,8 +42,8 @@ check-lock-requires c κs =
     let s = f .before .before .before .before .before in
     let r = f .before .record-at .result in
     let passed = passed-of-done (nine s (wordsOf r)) tt tt (sym (f .check-record .ensures) ∙ ap verdictModel (c .enum-told2 .given .1)) in
-    let h = record-of-passed (s .args .width .now) (wordsOf r) (s .args .i) passed .target-in in
-    omega arith
+    let R = record-of-passed (s .args .width .now) (wordsOf r) (s .args .i) passed in
+    (R .kind-known, subst (λ (n : ℕ). TargetsIn n r) (sym (s .pre .1)) (targets-within (s .args .width .now) r R))
 
 returns-2 : tie.Need-returns-2
 returns-2 c =

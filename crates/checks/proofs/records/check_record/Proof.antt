@@ -3,7 +3,8 @@ use mathlib.Core.Path.{_≡_, sym, ap, _∙_}
 use mathlib.Core.Bool.{not}
 use mathlib.Core.List.{List, [], _∷_}
 use lib.ListN.{length}
-use Rattle.operations.specs.Record.{wordsOf, Fault, fault, namedFaults, recordFaults, widthsFit}
+use Rattle.operations.specs.Record.{wordsOf}
+use Rattle.operations.specs.Faults.{Fault, fault, namedFaults, recordFaults, widthsFit}
 use Rattle.checks.specs.Check.{placed}
 use Rattle.checks.specs.Model.{verdictModel, judged}
 use Rattle.checks.proofs.Verdicts.{passed-of-done}

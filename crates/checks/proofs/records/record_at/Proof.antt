@@ -1,4 +1,4 @@
--- `checks::records::record_at` meets its contract: the five words from its first on. Assumes nothing.
+-- `checks::records::record_at` meets its contract: the six words from its first on. Assumes nothing.
 use mathlib.Core.Path.{sym}
 use Prim.Native.Nat.{_*_}
 use native.Mathlib.Omega.{arith}
@@ -10,13 +10,16 @@ use Rattle.checks.proofs.records.record_at.Tie as tie
 
 returns : tie.Need-returns
 returns c =
-    let a = c .before .before .before .before .before .args in
+    let a = c .before .before .before .before .before .before .args in
     sym (record-words (a .words .now) (recordWords * a .i) (omega arith))
 
 pub record-at-spec : {M : Type 1} → statement M
 record-at-spec =
     tie.close
     (tie.spec
+    (λ c. search needs)
+    (λ c. search needs)
+    (λ c. search needs)
     (λ c. search needs)
     (λ c. search needs)
     (λ c. search needs)

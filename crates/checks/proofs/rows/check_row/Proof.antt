@@ -2,7 +2,7 @@
 use mathlib.Core.Path.{_≡_, sym, ap, _∙_}
 use mathlib.Core.List.{List, _∷_}
 use borrow.Author.Tests.{lt-ltb, le-ltb}
-use Rattle.operations.specs.Record.{fault}
+use Rattle.operations.specs.Faults.{fault}
 use Rattle.checks.specs.Check.{Check, placed}
 use Rattle.checks.specs.Checks.{lockOver, widthFaults, vectorFaults, rowFaults}
 use Rattle.checks.specs.Model.{verdictModel, judged}

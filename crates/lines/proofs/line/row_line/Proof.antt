@@ -2,7 +2,7 @@
 use mathlib.Core.Path.{sym, ap, _∙_}
 use Rattle.letters.specs.Model.{editionModel, vectorModel}
 use Rattle.lines.specs.Model.{numberModel}
-use Rattle.lines.proofs.ReadRecords.{row-no-lock, row-no-vector, row-good}
+use Rattle.lines.proofs.ReadRows.{row-no-lock, row-no-vector, row-good}
 use borrow.Author.Needs.{needs}
 use Rattle.lines.proofs.line.row_line.Statement.{statement}
 use Rattle.lines.proofs.line.row_line.Tie as tie

@@ -1,8 +1,8 @@
--- `table_lines::fill::put_words`: five words, one after another. Assumes nothing.
+-- `table_lines::fill::put_words`: six words, one after another. Assumes nothing.
 use mathlib.Core.Path.{refl}
 use native.Mathlib.Omega.{arith}
 use lib.ListN.{length-set}
-use Rattle.table_lines.proofs.FillRecords.{five}
+use Rattle.table_lines.proofs.FillRecords.{six}
 use borrow.Author.Needs.{needs}
 use Rattle.table_lines.proofs.fill.put_words.Statement.{statement}
 use Rattle.table_lines.proofs.fill.put_words.Tie as tie
@@ -49,6 +49,15 @@ mul-words-5 c = search needs
 slice-write-words-5 : tie.Need-slice-write-words-5
 slice-write-words-5 c = simp length-set (omega arith)
 
+add-words-5 : tie.Need-add-words-5
+add-words-5 c = search needs
+
+mul-words-6 : tie.Need-mul-words-6
+mul-words-6 c = search needs
+
+slice-write-words-6 : tie.Need-slice-write-words-6
+slice-write-words-6 c = simp length-set (omega arith)
+
 add-result : tie.Need-add-result
 add-result c = search needs
 
@@ -56,7 +65,7 @@ same-length : tie.Need-same-length
 same-length c = search needs
 
 returns : tie.Need-returns
-returns c = let r = c .args .r in record { ends = refl; text = five (c .args .words .now) (c .args .at) (r .kind) (r .t) (r .a) (r .b) (r .p) }
+returns c = let r = c .args .r in record { ends = refl; text = six (c .args .words .now) (c .args .at) (r .kind) (r .t) (r .a) (r .b) (r .p) (r .c) }
 
 pub put-words-spec : {M : Type 1} → statement M
 put-words-spec =
@@ -76,6 +85,9 @@ put-words-spec =
     add-words-4
     mul-words-5
     slice-write-words-5
+    add-words-5
+    mul-words-6
+    slice-write-words-6
     add-result
     same-length
     returns)

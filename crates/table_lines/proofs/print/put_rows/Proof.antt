@@ -13,14 +13,14 @@ use Rattle.table_lines.proofs.print.put_rows.Statement.{statement}
 use Rattle.table_lines.proofs.print.put_rows.Tie as tie
 
 abbrev Inv-loop : tie.InvT-loop
-Inv-loop out₀ width lock mask value n at₀ i₀ out at i = (n ≡ length width) × (i ≤ n) × Writing out₀ 0 (linesText (rowLines (lent width lock mask value []))) out at (rows-from (lent width lock mask value []) i)
+Inv-loop out₀ from width lock mask value n at₀ i₀ out at i = (n ≡ length width) × (i ≤ n) × Writing out₀ from (linesText (rowLines (lent width lock mask value []))) out at (rows-from (lent width lock mask value []) i)
 
 abbrev μ-loop : tie.MeasureT-loop
-μ-loop out₀ width lock mask value n at₀ i₀ out at i = n - i
+μ-loop out₀ from width lock mask value n at₀ i₀ out at i = n - i
 
 loop-holds : tie.Need-loop-holds Inv-loop μ-loop
 loop-holds c =
-    let s = c .before .before .before .before .before in (refl, omega arith, begin (s .args .out .now) 0 _ _ (rows-begin (lent (s .args .width .now) (s .args .lock .now) (s .args .mask .now) (s .args .value .now) [])))
+    let s = c .before .before .before .before .before in (refl, omega arith, begin (s .args .out .now) (s .args .from) _ _ (rows-begin (lent (s .args .width .now) (s .args .lock .now) (s .args .mask .now) (s .args .value .now) [])))
 
 shared-slice-read-put-row : tie.Need-shared-slice-read-put-row Inv-loop μ-loop
 shared-slice-read-put-row c =

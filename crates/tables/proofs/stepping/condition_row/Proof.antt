@@ -5,7 +5,7 @@ use Rattle.tables.proofs.stepping.condition_row.Statement.{statement}
 use Rattle.tables.proofs.stepping.condition_row.Tie as tie
 
 returns : tie.Need-returns
-returns c = c .used-row .ensures (kindOf (c .before .before .args .r .kind) .use-p) (c .before .parameter-use .ensures)
+returns c = c .used-row .ensures (kindOf (c .before .before .args .r .kind) .use-c) (c .before .sixth-use .ensures)
 
 pub condition-row-spec : {M : Type 1} → statement M
 condition-row-spec = tie.close (tie.spec (λ c κs. search needs) (λ c κs. search needs) returns)

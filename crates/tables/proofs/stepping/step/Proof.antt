@@ -1,107 +1,106 @@
--- `tables::stepping::step` meets its contract: the kernel's result over the rows that the words name, put at the target. Assumes nothing.
-use native.Mathlib.Omega.{arith}
-use Rattle.checks.specs.Table.{State}
-use Rattle.tables.specs.Model.{held}
-use Rattle.tables.proofs.StepLaws.{Loaded, Present, first-in, second-in, present, code-same, code-ready, code-step}
+-- `tables::stepping::step` meets its contract: a record without cells, a load, or a store. Assumes nothing.
+use mathlib.Core.Path.{_≡_, sym, ap, subst, _∙_}
+use mathlib.Core.Bool.{Bool, not}
+use mathlib.Core.List.{List, [], _∷_}
+use Prim.Native.Nat.{ℕ}
 use borrow.Author.Needs.{needs}
+use borrow.Author.Tests.{not-true, not-false}
+use lib.Dec.{T}
+use Rattle.operations.specs.Kind.{isBase}
+use Rattle.operations.specs.Kinds.{kindOf}
+use Rattle.operations.specs.Record.{Effect}
+use Rattle.operations.proofs.Sound.{load-or-store}
+use Rattle.steps.specs.Step as Step
+use Rattle.steps.specs.States.{held}
+use Rattle.memories.specs.Effects.{loadEffect, storeEffects, SpanFits}
+use Rattle.memories.proofs.Described.{load-described, store-described, load-span, store-span}
 use Rattle.tables.proofs.stepping.step.Statement.{statement}
 use Rattle.tables.proofs.stepping.step.Tie as tie
 
-abbrev lent : tie.Start → State
-lent s = held (s .args .mask .now) (s .args .value .now)
+abbrev start : tie.After-has-cells → tie.Start
+start c = c .before .before .before .before
 
-abbrev start : tie.After-condition-row → tie.Start
-start c = c .before .before .before .before .before .before .before
+without-cells : (c : tie.Then1) → T (not (isBase (kindOf (start (c .before) .args .r .kind) .use-c)))
+without-cells c = subst (λ (b : Bool). T (not b)) (sym (sym (c .before .has-cells .ensures) ∙ not-true (c .before .has-cells .result) (c .if1 .taken))) tt
 
-shared-slice-read-wide-2 : tie.Need-shared-slice-read-wide-2
-shared-slice-read-wide-2 c =
-    let l = c .before .before .before in
-    let s = start l in
-    let h = first-in (s .args .width .now) (lent s) (s .args .r) (s .pre) in
-    let e = l .before .before .index2 .ensures in
-    omega arith
+with-cells : (c : tie.Else1) → T (isBase (kindOf (start (c .before) .args .r .kind) .use-c))
+with-cells c = subst T (sym (sym (c .before .has-cells .ensures) ∙ not-false (c .before .has-cells .result) (c .if1 .left))) tt
 
-shared-slice-read-wide-3 : tie.Need-shared-slice-read-wide-3
-shared-slice-read-wide-3 c =
+is-store : (c : tie.Else2) → let s = start (c .before .before .before .before .before .before) in s .args .r .kind ≡ 25
+is-store c =
     let l = c .before .before .before .before .before in
-    let s = start l in
-    let h = second-in (s .args .width .now) (lent s) (s .args .r) (s .pre) in
-    let e = l .before .second-row .ensures in
-    omega arith
+    let s = start (l .before) in
+    load-or-store (s .args .r .kind) (s .pre .passed .kind-known) (with-cells l) (c .if2 .left)
 
--- ---- once all is read but the planes
+-- under the code's names for the rows and the count
+as-named : (widths : List ℕ) {a x like y base k n m : ℕ} → a ≡ x → like ≡ y → base ≡ k → n ≡ m → SpanFits widths x y k m → SpanFits widths a like base n
+as-named widths e f g h = subst (λ (F : Type 0). F) (λ ι. SpanFits widths (sym e ι) (sym f ι) (sym g ι) (sym h ι))
 
-abbrev rows : tie.After-wide3 → tie.After-condition-row
-rows c = c .before .before .before .before .before .before
-
-loaded : (c : tie.After-wide3) →
-    let l = rows c in
-    Loaded (start l .args .width .now) (start l .args .r)
-    (l .before .before .before .index .result) (l .before .before .index2 .result) (l .before .second-row .result) (l .condition-row .result)
-    (c .before .before .before .before .wide .result) (c .before .before .wide2 .result) (c .wide3 .result)
-loaded c =
-    let l = rows c in
-    record {
-      target = l .before .before .before .index .ensures;
-      first = l .before .before .index2 .ensures;
-      second = l .before .second-row .ensures;
-      condition = l .condition-row .ensures;
-      target-width = c .before .before .before .before .wide .ensures;
-      first-width = c .before .before .wide2 .ensures;
-      second-width = c .wide3 .ensures;
-    }
-
-in-planes : (c : tie.After-wide3) →
-    let l = rows c in
-    let s = start l in
-    Present (s .args .width .now) (lent s) (l .before .before .index2 .result) (l .before .second-row .result) (l .condition-row .result)
-in-planes c = let s = start (rows c) in present (s .args .width .now) (lent s) (s .args .r) (s .pre) (loaded c)
-
-of-record-requires : tie.Need-of-record-requires
-of-record-requires c κs =
-    let w = c .before .before .before .before .before .before in
-    let s = start (rows w) in (
-      code-ready (s .args .width .now) (lent s) (s .args .r) (s .pre) (loaded w),
-      code-same (s .args .width .now) (lent s) (s .args .r) (s .pre) (loaded w),
+load-to-requires : tie.Need-load-to-requires
+load-to-requires c κs =
+    let t = c .before .before .before in
+    let i3 = t .before .before in
+    let s = start (i3 .before .before .before .before) in
+    let widths = s .args .width .now in (
+      s .pre .fits,
+      as-named widths (i3 .before .before .index .ensures) (c .index4 .ensures) (i3 .before .index2 .ensures) (i3 .index3 .ensures) (load-span widths (s .args .r) (t .if2 .taken) (s .pre .passed)),
     )
 
-returns : tie.Need-returns
-returns c =
-    let w = c .before .before .before .before .before .before .before in
-    let s = start (rows w) in
-    code-step (s .args .width .now) (lent s) (s .args .r) (s .pre) (loaded w) (c .of-record .result .mask) (c .of-record .result .value) (c .of-record .ensures)
+returns-2 : tie.Need-returns-2
+returns-2 c =
+    let l = c .before .before .before .before in
+    let i4 = l .before in
+    let t = i4 .before .before .before in
+    let i3 = t .before .before in
+    let s = start (i3 .before .before .before .before) in
+    let widths = s .args .width .now in
+    let rows = held (s .args .mask .now) (s .args .value .now) in
+    l .load-to .ensures
+    ∙ (λ ι. Step.step widths (loadEffect (i4 .index4 .ensures ι) (i3 .before .before .index .ensures ι) (i3 .before .index2 .ensures ι) (i3 .index3 .ensures ι) ∷ []) rows)
+    ∙ ap (λ (es : List Effect). Step.step widths es rows) (sym (load-described widths (s .args .r) (t .if2 .taken)))
+
+store-requires : tie.Need-store-requires
+store-requires c κs =
+    let t = c .before .before .before in
+    let i3 = t .before .before in
+    let s = start (i3 .before .before .before .before) in
+    let widths = s .args .width .now in (
+      s .pre .fits,
+      as-named widths (i3 .before .before .index .ensures) (c .index5 .ensures) (i3 .before .index2 .ensures) (i3 .index3 .ensures) (store-span widths (s .args .r) (is-store t) (s .pre .passed)),
+    )
+
+returns-3 : tie.Need-returns-3
+returns-3 c =
+    let l = c .before .before .before .before in
+    let i5 = l .before in
+    let t = i5 .before .before .before in
+    let i3 = t .before .before in
+    let s = start (i3 .before .before .before .before) in
+    let widths = s .args .width .now in
+    let rows = held (s .args .mask .now) (s .args .value .now) in
+    l .store .ensures
+    ∙ (λ ι. Step.step widths (storeEffects (i3 .before .before .index .ensures ι) (i5 .index5 .ensures ι) (i3 .before .index2 .ensures ι) (i3 .index3 .ensures ι)) rows)
+    ∙ ap (λ (es : List Effect). Step.step widths es rows) (sym (store-described widths (s .args .r) (is-store t)))
 
 pub step-spec : {M : Type 1} → statement M
 step-spec =
     tie.close
     (tie.spec
     (λ c κs. search needs)
+    (λ c κs. (start (c .before .before .before) .pre, without-cells (c .before .before)))
+    (λ c. search needs)
+    (λ c. search needs)
+    (λ c. search needs)
     (λ c κs. search needs)
-    (λ c κs. c .before .before .before .before .before .pre .passed .kind-known)
-    (λ c κs. c .before .before .before .before .before .before .pre .passed .kind-known)
-    (λ c. search needs)
     (λ c κs. search needs)
-    shared-slice-read-wide-2
     (λ c κs. search needs)
-    shared-slice-read-wide-3
     (λ c κs. search needs)
-    (λ c. search needs)
-    (λ c. let p = in-planes (c .before) in omega arith)
-    (λ c. search needs)
-    (λ c. let p = in-planes (c .before .before) in omega arith)
-    (λ c. let p = in-planes (c .before .before) in omega arith)
-    (λ c. let p = in-planes (c .before .before .before) in omega arith)
-    (λ c. let p = in-planes (c .before .before .before) in omega arith)
-    (λ c. let p = in-planes (c .before .before .before .before) in omega arith)
-    (λ c. let p = in-planes (c .before .before .before .before) in omega arith)
-    (λ c. let p = in-planes (c .before .before .before .before .before) in omega arith)
-    (λ c. let p = in-planes (c .before .before .before .before .before) in omega arith)
-    (λ c. let p = in-planes (c .before .before .before .before .before .before) in omega arith)
-    of-record-requires
+    load-to-requires
     (λ c. search needs)
     (λ c. search needs)
+    returns-2
+    (λ c κs. search needs)
+    store-requires
     (λ c. search needs)
     (λ c. search needs)
-    (λ c. search needs)
-    (λ c. search needs)
-    returns)
+    returns-3)

@@ -8,9 +8,9 @@ use lib.ListN.{length}
 use Rattle.operations.specs.Limits.{recordWords}
 use Rattle.checks.specs.Table.{State}
 use Rattle.checks.specs.Model.{lent}
-use Rattle.tables.specs.Step.{after}
+use Rattle.steps.specs.Step.{after}
 use Rattle.tables.specs.Run.{programOf}
-use Rattle.tables.specs.Model.{held}
+use Rattle.steps.specs.States.{held}
 use Rattle.tables.proofs.StretchLaws.{at-fits, turn-ready, turn-next}
 use Rattle.tables.proofs.stepping.step_all.Statement.{statement}
 use Rattle.tables.proofs.stepping.step_all.Tie as tie

@@ -1,0 +1,2 @@
+-- The definitions of `lookups`.
+pub mod Lookup

@@ -1,0 +1,2 @@
+-- The definitions of `memories`.
+pub mod Effects

@@ -1,0 +1,3 @@
+-- The definitions of `steps`.
+pub mod Step
+pub mod States
