@@ -1,6 +1,6 @@
--- Laws of tests: a test that holds, `T b`, through `&&`, `||`, `not` and equality of numbers. Assumes nothing.
-use mathlib.Core.Path.{_≡_, subst}
-use mathlib.Core.Bool.{Bool, true, false, not, _&&_, _||_}
+-- Laws of tests: a test that holds, `T b`, through `&&`, `||`, `not` and equality of numbers; a choice by a test. Assumes nothing.
+use mathlib.Core.Path.{_≡_, refl, subst}
+use mathlib.Core.Bool.{Bool, true, false, not, cond, _&&_, _||_}
 use mathlib.Core.Logic.{_⊎_, inl, inr}
 use Prim.Native.Nat.{ℕ}
 use lib.Dec.{T, eqb, eqb-refl}
@@ -40,3 +40,22 @@ T-not-not false t = t
 pub not-not-T : (a : Bool) → T a → T (not (not a))
 not-not-T true t = tt
 not-not-T false t = t
+
+pub and-true : (b : Bool) → (b && true) ≡ b
+and-true true = refl
+and-true false = refl
+
+-- ---- a choice by a test
+
+pub when-true : {A : Type 0} (b : Bool) (x y : A) → T b → cond b x y ≡ x
+when-true true x y t = refl
+when-true false x y t = absurd t
+
+pub when-false : {A : Type 0} (b : Bool) (x y : A) → T (not b) → cond b x y ≡ y
+when-false true x y t = absurd t
+when-false false x y t = refl
+
+-- what holds of both arms, each where it is taken, holds of the choice
+pub by-cond : {A : Type 0} (P : A → Type 0) (b : Bool) (x y : A) → (T b → P x) → (T (not b) → P y) → P (cond b x y)
+by-cond P true x y f g = f tt
+by-cond P false x y f g = g tt

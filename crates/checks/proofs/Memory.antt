@@ -8,6 +8,7 @@ use borrow.Author.Tests.{eq-eqb, ne-eqb}
 use lib.Dec.{T, eqb}
 use lib.ListN.{getD}
 use Rattle.bits.specs.Counted.{listed}
+use Rattle.bits.proofs.Bools.{and-true}
 use Rattle.vectors.specs.Lists.{allOf, someOf}
 use Rattle.vectors.proofs.Lists.{allOf-mapped, allOf-same}
 use Rattle.vectors.proofs.ListParts.{listed-map, listed-from}
@@ -23,7 +24,7 @@ use Rattle.checks.specs.Model.{judged}
 use Rattle.checks.specs.Encoding.{spanFaults}
 
 -- the words of a record of a known kind
-abbrev words : ℕ → Record → List ℕ
+abbrev pub words : ℕ → Record → List ℕ
 words k r = k ∷ r .t ∷ r .a ∷ r .b ∷ r .p ∷ r .c ∷ []
 
 -- ---- checks 7 and 8: those that cannot fail are left out
@@ -54,10 +55,6 @@ unfolding kindOf
 store-row r e = ap (λ (k : ℕ). kindOf k .use-b) e
 
 -- ---- check 9
-
-and-true : (b : Bool) → (b && true) ≡ b
-and-true true = refl
-and-true false = refl
 
 -- the test of a cell of a store, whose own width is among its operands'
 cell-fits : (w d : ℕ) → (eqb w d && (eqb w w && true)) ≡ eqb d w

@@ -92,6 +92,11 @@ small-of unused q z word m = let z = eqb→eq word 0 (T-not-not (eqb word 0) m) 
 in-of : (u : Use) (n word : ℕ) → T (not (wordOutside n u word)) → u ≡ asRow → word < n
 in-of u n word t e = nleb→lt n word (subst (λ (v : Use). T (not (wordOutside n v word))) e t)
 
+-- the end of a span, where there is one
+pub ends-within : (b : Bool) (n m : ℕ) → T (not (b && ltb n m)) → T b → m ≤ n
+ends-within true n m t u = nltb→le n m t
+ends-within false n m t u = absurd u
+
 pub record NamedFacts (n : ℕ) (r : Record) : Type 0 where
   pub known : T (isKind (r .kind))
   pub first-in : r .a < n
@@ -111,13 +116,9 @@ named-facts n r N =
       second-in = in-of (kindOf (r .kind) .use-b) n (r .b) (P .1 .1 .1 .0);
       target-in = in-of (kindOf (r .kind) .use-t) n (r .t) (P .1 .0);
       sixth-in = in-of (kindOf (r .kind) .use-c) n (r .c) (P .1 .1 .1 .1 .0);
-      span-in = span-ends (isBase (kindOf (r .kind) .use-c)) n (r .c + r .p) (P .1 .1 .1 .1 .1 .0);
+      span-in = ends-within (isBase (kindOf (r .kind) .use-c)) n (r .c + r .p) (P .1 .1 .1 .1 .1 .0);
       parameter-small = λ none. small-of (kindOf (r .kind) .use-p) (parameter-plain (r .kind) k none) (parameter-no-row (r .kind) k) (r .p) (P .1 .1 .1 .1 .1 .1 .1 .1 .1 .0);
     }
-  where
-    span-ends : (b : Bool) (n m : ℕ) → T (not (b && ltb n m)) → T b → m ≤ n
-    span-ends true n m t u = nltb→le n m t
-    span-ends false n m t u = absurd u
 
 -- the place does not matter to what passed
 pub passed-anywhere : (i j : ℕ) (fs : List Fault) → Passed (placed i fs) → Passed (placed j fs)

@@ -22,6 +22,7 @@ use Rattle.checks.specs.Check.{placed, Passed}
 use Rattle.checks.specs.Accepted.{RecordPassed}
 use Rattle.checks.specs.Encoding.{TargetsIn}
 use Rattle.checks.proofs.RowChecks.{positive}
+use Rattle.checks.proofs.Naming.{ends-within}
 
 -- ---- one word
 
@@ -83,13 +84,6 @@ writes-out unused q n t c m e = tt
 
 -- ---- a record
 
-cells-in : (u : Use) (n c m : ℕ) → T (isBase u) → T (not (isBase u && ltb n (c + m))) → All (λ i. i < n) (span c m)
-cells-in asRow n c m b o = absurd b
-cells-in asNumber n c m b o = absurd b
-cells-in asCount n c m b o = absurd b
-cells-in asBase n c m b o = span-in n c m (nltb→le n (c + m) o)
-cells-in unused n c m b o = absurd b
-
 pub record-of-passed : (widths words : List ℕ) (i : ℕ) → Passed (placed i (recordFaults widths words)) → RecordPassed widths words
 unfolding recordFaults rowsNamed targetRows
 record-of-passed widths words i P =
@@ -100,7 +94,7 @@ record-of-passed widths words i P =
     record {
       kind-known = known;
       targets-in = writes-in (k .use-t) n (targetWord words) (sixthWord words) (parameterWord words) (P .1 .0)
-          (λ z. cells-in (k .use-c) n (sixthWord words) (parameterWord words) (cells-written (kindWord words) known z) (S .0));
+          (λ z. span-in n (sixthWord words) (parameterWord words) (ends-within (isBase (k .use-c)) n (sixthWord words + parameterWord words) (S .0) (cells-written (kindWord words) known z)));
       operands-in = row-in (k .use-a) n (firstWord words) _ (P .1 .1 .0)
           (row-in (k .use-b) n (secondWord words) _ (P .1 .1 .1 .0)
           (sixth-in (k .use-c) n (sixthWord words) (parameterWord words) (P .1 .1 .1 .1 .0) (S .0)));
@@ -134,11 +128,8 @@ passed-of-record widths words i R =
 -- a span lies in the table
 pub span-within : (widths words : List ℕ) → RecordPassed widths words → T (isBase (kindIn words .use-c)) → sixthWord words + parameterWord words ≤ length widths
 unfolding recordFaults
-span-within widths words R z = go (isBase (kindIn words .use-c)) z (passed-of-record widths words 0 R .1 .1 .1 .1 .1 .0)
-  where
-    go : (b : Bool) → T b → T (not (b && ltb (length widths) (sixthWord words + parameterWord words))) → sixthWord words + parameterWord words ≤ length widths
-    go true z t = nltb→le (length widths) (sixthWord words + parameterWord words) t
-    go false z t = absurd z
+span-within widths words R =
+    ends-within (isBase (kindIn words .use-c)) (length widths) (sixthWord words + parameterWord words) (passed-of-record widths words 0 R .1 .1 .1 .1 .1 .0)
 
 -- the rows that it writes, as the code tells them
 pub targets-within : (widths : List ℕ) (r : Record) → RecordPassed widths (wordsOf r) → TargetsIn (length widths) r

@@ -10,11 +10,11 @@ use Prim.Native.Nat.{ℕ, zero, suc, _+_, _≤_, _<_}
 use native.Mathlib.Omega.{arith}
 use lib.Dec.{T, eqb, eqb→eq, eqb-refl}
 use lib.ListN.{length, take, drop}
-use Rattle.bits.proofs.Bools.{T-left, T-right, T-and, eq→eqb}
+use Rattle.bits.proofs.Bools.{T-left, T-right, T-and, eq→eqb, when-true, when-false, by-cond}
 use Rattle.vectors.specs.Lists.{allOf}
 use Rattle.grammar.specs.Print.{joined}
 use Rattle.grammar.specs.Cut.{onto, pieces, before}
-use Rattle.grammar.proofs.Tests.{decide, when-true, when-false, by-cond, ne→neqb, allOf-append}
+use Rattle.grammar.proofs.Tests.{decide, ne→neqb, allOf-append}
 
 -- the byte c does not stand in the list
 abbrev pub without : ℕ → List ℕ → Bool

@@ -13,7 +13,8 @@ use lib.Arith.{le→nltb}
 use lib.ListN.{length, length-append}
 use Rattle.grammar.specs.Print.{digits, decimal}
 use Rattle.grammar.specs.Line.{numeral, numberOf}
-use Rattle.grammar.proofs.Tests.{decide, when-true, when-false}
+use Rattle.grammar.proofs.Tests.{decide}
+use Rattle.bits.proofs.Bools.{when-true, when-false}
 
 -- ---- one more digit, with no bound on their count
 

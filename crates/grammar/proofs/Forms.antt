@@ -7,14 +7,14 @@ use mathlib.Core.List.{List, [], _∷_, _++_, map, map-id}
 use Prim.Native.Nat.{ℕ}
 use lib.Dec.{T, eqb, eqb→eq}
 use lib.ListN.{length, take, drop, take-append-drop}
-use Rattle.bits.proofs.Bools.{T-or}
+use Rattle.bits.proofs.Bools.{T-or, by-cond}
 use Rattle.grammar.specs.Lists.{same}
 use Rattle.grammar.specs.Words.{lf, tab, rowWord, opWord, letter0, letter1, letterX, threeLetters, edition3, header3}
 use Rattle.grammar.specs.Print.{joined}
 use Rattle.grammar.specs.Cut.{pieces}
 use Rattle.grammar.specs.Lines.{headedBy, Opening}
 use Rattle.grammar.specs.Form.{letterForm, rowForm, recordForm, fieldsForm, lineForm, formOf}
-use Rattle.grammar.proofs.Tests.{by-cond, same→eq}
+use Rattle.grammar.proofs.Tests.{same→eq}
 use Rattle.grammar.proofs.Cuts.{joined-pieces}
 use Rattle.grammar.proofs.Openings.{opening-third}
 

@@ -11,7 +11,7 @@ use native.Mathlib.Omega.{arith}
 use lib.Dec.{T, eqb, eqb→eq}
 use lib.ListN.{length, length-map}
 use Rattle.bits.specs.Bit.{digit}
-use Rattle.bits.proofs.Bools.{T-left, T-right}
+use Rattle.bits.proofs.Bools.{T-left, T-right, by-cond}
 use Rattle.operations.specs.Limits.{recordWords}
 use Rattle.operations.specs.Kind.{isRow}
 use Rattle.operations.specs.Kinds.{kindOf}
@@ -21,7 +21,7 @@ use Rattle.grammar.specs.Words.{rowWord, opWord, openWord, lockedWord, l
 use Rattle.grammar.specs.Print.{decimal, Line, rowLine, recordLine, outside, fieldsOf}
 use Rattle.grammar.specs.Line.{isNumber, numberOf, isVector, vectorOf, isLock, lockOf, isName, numberNamed, rowOf, recordIn, lineOf}
 use Rattle.grammar.specs.Form.{fieldsForm}
-use Rattle.grammar.proofs.Tests.{decide, is-true, is-false, or-left, by-cond, undone, same→eq}
+use Rattle.grammar.proofs.Tests.{decide, is-true, is-false, or-left, undone, same→eq}
 use Rattle.grammar.proofs.Numbers.{decimal-back}
 use Rattle.grammar.proofs.Letters.{letters-back}
 use Rattle.grammar.proofs.Vectors.{vector-tests}

@@ -9,7 +9,7 @@ use Prim.Native.Nat.{ℕ, zero, suc, _≤_}
 use native.Mathlib.Omega.{arith}
 use lib.Dec.{T, leb, ltb, eqb, leb→le, lt→ltb}
 use lib.ListN.{length, drop, length-map}
-use Rattle.bits.proofs.Bools.{T-and, eq→eqb}
+use Rattle.bits.proofs.Bools.{T-and, eq→eqb, when-true}
 use Rattle.operations.specs.Limits.{recordWords}
 use Rattle.operations.specs.Kinds.{kinds, isKind, kindOf}
 use Rattle.operations.specs.Record.{kindWord}
@@ -19,7 +19,7 @@ use Rattle.vectors.specs.Lists.{allOf}
 use Rattle.grammar.specs.Words.{lockWord, threeLetters, edition3}
 use Rattle.grammar.specs.Print.{decimal, lettersOf, LineRow, Line, rowLine, recordLine, outside, fieldsOf}
 use Rattle.grammar.specs.Line.{isDigit, isNumber, numberOf, isLetter, isVector, vectorOf, isLock, lockOf, isName, numberNamed, lineOf}
-use Rattle.grammar.proofs.Tests.{when-true, allOf-imp, allOf-map, undone}
+use Rattle.grammar.proofs.Tests.{allOf-imp, allOf-map, undone}
 use Rattle.grammar.proofs.Decimals.{number-decimal}
 use Rattle.grammar.proofs.Numbers.{digit-least, decimal-digits, decimal-number}
 use Rattle.grammar.proofs.Letters.{letters-length, letters-letters, mask-back, value-back, by-letter}

@@ -11,7 +11,7 @@ use mathlib.Core.List.{List, [], _∷_}
 use Prim.Native.Nat.{ℕ}
 use lib.Dec.{T, ltb, eqb, eqb→eq}
 use lib.ListN.{take}
-use Rattle.bits.proofs.Bools.{T-left, T-right}
+use Rattle.bits.proofs.Bools.{T-left, T-right, when-true, when-false}
 use Rattle.operations.specs.Kind.{Kind}
 use Rattle.operations.specs.Kinds.{kinds, isKind, kindOf}
 use Rattle.operations.proofs.Lookup.{each-kind}
@@ -19,7 +19,7 @@ use Rattle.grammar.specs.Lists.{same}
 use Rattle.vectors.specs.Lists.{allOf}
 use Rattle.grammar.specs.Words.{olderKinds}
 use Rattle.grammar.specs.Line.{isName, numberNamed}
-use Rattle.grammar.proofs.Tests.{decide, or-right, when-true, when-false, same→eq}
+use Rattle.grammar.proofs.Tests.{decide, or-right, same→eq}
 use Rattle.vectors.proofs.Lists.{allOf-all}
 
 -- ---- a kind found in a list

@@ -16,7 +16,8 @@ use Rattle.grammar.specs.Limits.{textLimit}
 use Rattle.grammar.specs.Lists.{same}
 use Rattle.grammar.specs.Words.{edition2, edition3, header2, header3}
 use Rattle.grammar.specs.Lines.{linesFrom, headedBy, Opening, headedOpening, bareOpening, opening, linesIn}
-use Rattle.grammar.proofs.Tests.{by-cond, when-true, when-false, same→eq}
+use Rattle.grammar.proofs.Tests.{same→eq}
+use Rattle.bits.proofs.Bools.{by-cond, when-true, when-false}
 use Rattle.grammar.proofs.Names.{Known, known-all, known-older}
 
 abbrev second : Opening

@@ -1,9 +1,9 @@
 -- Laws of choices, of tests of every element, and of words compared. Assumes nothing.
---   decide, when-true, when-false, by-cond    a test and a choice by it
+--   decide                                    a test, or its negation
 --   allOf-imp .. allOf-map, undone                tests of every element
 --   same→eq, same-self, other-word            words compared
 use mathlib.Core.Path.{_≡_, refl, ap₂, subst}
-use mathlib.Core.Bool.{Bool, true, false, not, cond, _||_}
+use mathlib.Core.Bool.{Bool, true, false, not, _||_}
 use mathlib.Core.Logic.{_⊎_, inl, inr}
 use mathlib.Core.List.{List, [], _∷_, _++_, map}
 use Prim.Native.Nat.{ℕ, zero, suc, _<_}
@@ -33,19 +33,6 @@ or-left false b t u = absurd (T-not b u t)
 pub or-right : (a b : Bool) → T (a || b) → T (not a) → T b
 or-right true b t u = absurd u
 or-right false b t u = t
-
-pub when-true : {A : Type 0} (b : Bool) (x y : A) → T b → cond b x y ≡ x
-when-true true x y t = refl
-when-true false x y t = absurd t
-
-pub when-false : {A : Type 0} (b : Bool) (x y : A) → T (not b) → cond b x y ≡ y
-when-false true x y t = absurd t
-when-false false x y t = refl
-
--- what holds of both arms, each where it is taken, holds of the choice
-pub by-cond : {A : Type 0} (P : A → Type 0) (b : Bool) (x y : A) → (T b → P x) → (T (not b) → P y) → P (cond b x y)
-by-cond P true x y f g = f tt
-by-cond P false x y f g = g tt
 
 pub ne→neqb : (m n : ℕ) → (m ≡ n → ⊥) → T (not (eqb m n))
 ne→neqb m n f = not-T (eqb m n) (λ t. f (eqb→eq m n t))

@@ -9,12 +9,12 @@ use Prim.Native.Nat.{ℕ, _+_}
 use native.Mathlib.Omega.{arith}
 use lib.Dec.{eqb, eqb→eq, not-T}
 use lib.ListN.{length, drop}
-use Rattle.bits.proofs.Bools.{T-left, T-right, eq→eqb}
+use Rattle.bits.proofs.Bools.{T-left, T-right, eq→eqb, when-false}
 use Rattle.vectors.specs.Lists.{allOf}
 use Rattle.grammar.specs.Words.{Edition, edition1, edition3, numberCount, sixFor}
 use Rattle.grammar.specs.Print.{Line, recordLine, outside}
 use Rattle.grammar.specs.Line.{isNumber, numberOf, isName, numberNamed, recordIn}
-use Rattle.grammar.proofs.Tests.{is-true, when-false}
+use Rattle.grammar.proofs.Tests.{is-true}
 use Rattle.grammar.proofs.Parts.{nth}
 use Rattle.letters.specs.declared.Edition.{Edition as EditionCase}
 use Rattle.letters.specs.Model.{editionModel}

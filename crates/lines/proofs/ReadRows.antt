@@ -6,12 +6,11 @@ use mathlib.Core.List.{List, [], _∷_}
 use mathlib.Core.Option.{some, none}
 use Prim.Native.Nat.{ℕ}
 use lib.Dec.{T, not-T}
-use Rattle.bits.proofs.Bools.{T-left, T-right, T-and}
+use Rattle.bits.proofs.Bools.{T-left, T-right, T-and, when-true, when-false}
 use Rattle.vectors.specs.Row.{Row}
 use Rattle.grammar.specs.Words.{Edition}
 use Rattle.grammar.specs.Print.{Line, rowLine, outside}
 use Rattle.grammar.specs.Line.{isVector, vectorOf, isLock, lockOf, rowOf}
-use Rattle.grammar.proofs.Tests.{when-true, when-false}
 use Rattle.letters.specs.Reads.{reading}
 use Rattle.letters.proofs.Telling.{told, untold}
 use Rattle.letters.proofs.ReadVectors as Vector

@@ -12,9 +12,9 @@ use native.Mathlib.Omega.{arith}
 use lib.Dec.{eqb}
 use lib.ListN.{length, getD, take, drop, length-drop, drop-of-length-le}
 use lib.Seq.{drop-cons, drop-drop}
-use Rattle.bits.proofs.Bools.{eq→eqb}
+use Rattle.bits.proofs.Bools.{eq→eqb, when-true, when-false}
 use Rattle.grammar.specs.Cut.{onto, pieces, before, past, Ends, between, partEnds, within, Part, partAt}
-use Rattle.grammar.proofs.Tests.{when-true, when-false, ne→neqb}
+use Rattle.grammar.proofs.Tests.{ne→neqb}
 use Rattle.grammar.proofs.Cuts.{by-first, before-here, before-later}
 use Rattle.grammar.proofs.Parts.{past-on, nth, past-none, part-is, between-within}
 

@@ -8,6 +8,7 @@ use native.Mathlib.Decide.{decLt, ℕ-discrete}
 use native.Mathlib.Omega.{arith}
 use lib.Dec.{T-not, leb, leb→le, le→leb}
 use lib.ListN.{length, getD, List·getD-eq-default}
+use Rattle.bits.proofs.Bools.{by-cond}
 use Rattle.vectors.specs.Lists.{All}
 use Rattle.vectors.specs.Row.{Row, WellFormed, Covers}
 use Rattle.vectors.specs.Choice.{Chosen}
@@ -20,7 +21,7 @@ use Rattle.vectors.proofs.Joins.{hull-join}
 use Rattle.vectors.proofs.Bests.{best-of-hull}
 use Rattle.operations.specs.Memory.{loadNumber}
 use Rattle.lookups.specs.Lookup.{greatest, names, zeroRow, joinIf, joinNamed, loadRow}
-use Rattle.lookups.proofs.Named.{names-covered, covered-named, Cell, hull-cell, some-cell, cells-formed, zero-cell, zero-only, cell-at, hull-cond}
+use Rattle.lookups.proofs.Named.{names-covered, covered-named, Cell, hull-cell, some-cell, cells-formed, zero-cell, zero-only, cell-at}
 
 record NamedBelow (w : ℕ) (a : Row) (cells : List Row) (k n : ℕ) : Type 0 where
   pub cell : ℕ
@@ -60,7 +61,7 @@ module _ (w : ℕ) (a : Row) (A : WellFormed a) (cells : List Row) (C : All (Cel
   -- one cell more
   join-next : (x : ℕ) (r : Row) → a .value < x → Hull w (NamedBelow w a cells x) r → Hull w (NamedBelow w a cells (suc x)) (joinIf (names a x) r (getD cells x (zeroRow w)))
   join-next x r l H =
-      hull-cond w (NamedBelow w a cells (suc x)) (names a x) (join r (getD cells x (zeroRow w))) r
+      by-cond (Hull w (NamedBelow w a cells (suc x))) (names a x) (join r (getD cells x (zeroRow w))) r
       (λ t. hull-iff w (λ n. NamedBelow w a cells x n ⊎ Covers (getD cells x (zeroRow w)) n) (NamedBelow w a cells (suc x)) (join r (getD cells x (zeroRow w)))
       (λ n p. elim p [
         | inl N ↦ wider n N
@@ -131,7 +132,7 @@ module _ (w : ℕ) (a : Row) (A : WellFormed a) (cells : List Row) (C : All (Cel
   load-hull : Hull w (Results loadNumber (a ∷ cells)) (loadRow w a cells)
   unfolding loadRow
   load-hull =
-      hull-cond w (Results loadNumber (a ∷ cells)) (leb (length cells) (greatest a)) (join (joinNamed w a cells more) (zeroRow w)) (joinNamed w a cells more)
+      by-cond (Hull w (Results loadNumber (a ∷ cells))) (leb (length cells) (greatest a)) (join (joinNamed w a cells more) (zeroRow w)) (joinNamed w a cells more)
       (λ t. hull-iff w (λ n. Named n ⊎ Covers (zeroRow w) n) (Results loadNumber (a ∷ cells)) (join (joinNamed w a cells more) (zeroRow w))
       (λ n p. elim p [
         | inl N ↦ named-result n N

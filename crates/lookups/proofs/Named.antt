@@ -1,7 +1,6 @@
--- The test `names` means that the address row covers the number; cells of one width; a vector that is chosen by a test. Assumes nothing.
+-- The test `names` means that the address row covers the number; cells of one width. Assumes nothing.
 --   Cell w c   c is a well-formed vector of width w
 use mathlib.Core.Path.{_≡_, refl, sym, ap, _∙_, subst}
-use mathlib.Core.Bool.{Bool, true, false, not, cond}
 use mathlib.Core.Logic.{inl, inr}
 use mathlib.Core.List.{List, [], _∷_}
 use Prim.Native.Nat.{ℕ, zero, suc, _<_, max}
@@ -73,9 +72,3 @@ pub cell-at : (w : ℕ) (cells : List Row) → All (Cell w) cells → (j : ℕ) 
 cell-at w [] C j = zero-cell w
 cell-at w (c ∷ cells) C zero = C .0
 cell-at w (c ∷ cells) C (suc j) = cell-at w cells (C .1) j
-
--- ---- a vector that is chosen by a test
-
-pub hull-cond : (w : ℕ) (P : ℕ → Type 0) (b : Bool) (p q : Row) → (T b → Hull w P p) → (T (not b) → Hull w P q) → Hull w P (cond b p q)
-hull-cond w P true p q f g = f tt
-hull-cond w P false p q f g = g tt

@@ -9,7 +9,7 @@ use native.Mathlib.Omega.{arith}
 use lib.Dec.{T, T-not, not-T, eqb, eqb→eq}
 use lib.Bits.{or-disjoint}
 use Rattle.bits.proofs.Bits.{bit-cases}
-use Rattle.bits.proofs.Bools.{eq→eqb}
+use Rattle.bits.proofs.Bools.{eq→eqb, when-true, when-false, by-cond}
 use Rattle.vectors.specs.Row.{Row, WellFormed, Covers}
 use Rattle.vectors.specs.Choice.{Chosen}
 use Rattle.vectors.specs.Best.{best}
@@ -21,15 +21,7 @@ use Rattle.vectors.proofs.Bests.{best-of-hull}
 use Rattle.vectors.proofs.BestLaws.{known-covers}
 use Rattle.operations.specs.Memory.{storeNumber}
 use Rattle.lookups.specs.Lookup.{names, storeRow}
-use Rattle.lookups.proofs.Named.{names-covered, covered-named, Cell, hull-cell, some-cell, hull-cond}
-
-pub cond-true : {A : Type 0} (b : Bool) (x y : A) → T b → cond b x y ≡ x
-cond-true true x y t = refl
-cond-true false x y t = absurd t
-
-pub cond-false : {A : Type 0} (b : Bool) (x y : A) → T (not b) → cond b x y ≡ y
-cond-false true x y t = absurd t
-cond-false false x y t = refl
+use Rattle.lookups.proofs.Named.{names-covered, covered-named, Cell, hull-cell, some-cell}
 
 -- an address with an unknown bit covers another number than i too
 other-address : (a : Row) → WellFormed a → (i : ℕ) → a .mask ≢ 0 → (x : ℕ) × Covers a x × (x ≢ i)
@@ -46,10 +38,10 @@ module _ (w i : ℕ) (a d c : Row) (A : WellFormed a) (D : Cell w d) (C : Cell w
   Stored n = Results (storeNumber i) (a ∷ d ∷ c ∷ []) n
 
   written : (n : ℕ) → Covers a i → Covers d n → Stored n
-  written n ca cd = record { numbers = i ∷ n ∷ c .value ∷ []; chosen = (ca, (cd, (covers-value c (C .formed), tt))); gives = cond-true (eqb i i) n (c .value) (eq→eqb {m = i} refl) }
+  written n ca cd = record { numbers = i ∷ n ∷ c .value ∷ []; chosen = (ca, (cd, (covers-value c (C .formed), tt))); gives = when-true (eqb i i) n (c .value) (eq→eqb {m = i} refl) }
 
   kept : (x n : ℕ) → Covers a x → x ≢ i → Covers c n → Stored n
-  kept x n ca e cc = record { numbers = x ∷ d .value ∷ n ∷ []; chosen = (ca, (covers-value d (D .formed), (cc, tt))); gives = cond-false (eqb x i) (d .value) n (not-T (eqb x i) (λ t. e (eqb→eq x i t))) }
+  kept x n ca e cc = record { numbers = x ∷ d .value ∷ n ∷ []; chosen = (ca, (covers-value d (D .formed), (cc, tt))); gives = when-false (eqb x i) (d .value) n (not-T (eqb x i) (λ t. e (eqb→eq x i t))) }
 
   -- every result is the data, with the address i, or the cell, with another
   which : (n : ℕ) → Stored n → (Covers a i × Covers d n) ⊎ ((x : ℕ) × Covers a x × (x ≢ i) × Covers c n)
@@ -69,10 +61,10 @@ module _ (w i : ℕ) (a d c : Row) (A : WellFormed a) (D : Cell w d) (C : Cell w
   store-hull : Hull w Stored (storeRow i a d c)
   unfolding storeRow
   store-hull =
-      hull-cond w Stored (names a i) (cond (eqb (a .mask) 0) d (join c d)) c
+      by-cond (Hull w Stored) (names a i) (cond (eqb (a .mask) 0) d (join c d)) c
       (λ t.
       let ca = covered-named a A i t in
-      hull-cond w Stored (eqb (a .mask) 0) d (join c d) (λ u. known ca (eqb→eq (a .mask) 0 u)) (λ u. both ca (λ e. T-not (eqb (a .mask) 0) u (eq→eqb e))))
+      by-cond (Hull w Stored) (eqb (a .mask) 0) d (join c d) (λ u. known ca (eqb→eq (a .mask) 0 u)) (λ u. both ca (λ e. T-not (eqb (a .mask) 0) u (eq→eqb e))))
       (λ t.
       let no : ¬ Covers a i = λ ca. T-not (names a i) t (names-covered a A i ca) in
       hull-iff w (Covers c) Stored c

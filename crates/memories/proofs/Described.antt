@@ -13,12 +13,8 @@ use Rattle.operations.specs.declared.Record.{Record}
 use Rattle.operations.specs.Record.{wordsOf, widthAt, rowsNamed, targetRows, namedTwice, cellPart, partsOf, effectOf, effectsOf}
 use Rattle.checks.specs.Accepted.{RecordPassed}
 use Rattle.checks.proofs.RecordChecks.{span-within}
-use Rattle.checks.proofs.Memory.{load-fits, store-fits}
+use Rattle.checks.proofs.Memory.{words, load-fits, store-fits}
 use Rattle.memories.specs.Effects.{loadEffect, storeEffect, storeEffects, SpanFits}
-
--- the words of a record of a known kind
-abbrev words : ℕ → Record → List ℕ
-words k r = k ∷ r .t ∷ r .a ∷ r .b ∷ r .p ∷ r .c ∷ []
 
 module _ (widths : List ℕ) (r : Record) where
   load-is : effectsOf widths (words 24 r) ≡ loadEffect (r .t) (r .a) (r .c) (r .p) ∷ []

@@ -7,13 +7,12 @@ use native.Mathlib.Omega.{arith}
 use lib.Dec.{not-T, eqb, eqb→eq}
 use lib.ListN.{length, getD, set, length-map, List·getD-eq-default}
 use lib.Seq.{set-getD, getD-set-other}
-use Rattle.bits.proofs.Bools.{eq→eqb}
+use Rattle.bits.proofs.Bools.{eq→eqb, when-true, when-false}
 use Rattle.bits.specs.Counted.{listed}
 use Rattle.bits.proofs.Listed.{getD-from, length-listed}
 use Rattle.vectors.proofs.ListParts.{listed-map}
 use Rattle.steps.specs.Step.{setAll, operandNumbers, plainStep}
 use Rattle.operations.specs.Memory.{span}
-use Rattle.lookups.proofs.Stores.{cond-true, cond-false}
 use Rattle.memories.specs.Effects.{loadEffect, storeEffect, storeEffects}
 
 -- ---- a load
@@ -46,7 +45,7 @@ module _ (a d base : ℕ) (ns₀ : List ℕ) where
   skip : (n i : ℕ) (ns : List ℕ) → ¬ (x ≡ i) → Kept i ns → cells i (suc n) ns ≡ cells (suc i) n ns
   unfolding cells listed
   skip n i ns h K =
-      ap (λ (v : ℕ). cells (suc i) n (set ns (base + i) v)) (cond-false (eqb x i) (getD ns₀ d 0) (getD ns₀ (base + i) 0) (not-T (eqb x i) (λ t. h (eqb→eq x i t))) ∙ sym (K i (omega arith)))
+      ap (λ (v : ℕ). cells (suc i) n (set ns (base + i) v)) (when-false (eqb x i) (getD ns₀ d 0) (getD ns₀ (base + i) 0) (not-T (eqb x i) (λ t. h (eqb→eq x i t))) ∙ sym (K i (omega arith)))
       ∙ ap (cells (suc i) n) (set-getD ns (base + i) 0)
 
   others : (n i : ℕ) (ns : List ℕ) → ((j : ℕ) → i ≤ j → j < i + n → ¬ (x ≡ j)) → Kept i ns → cells i n ns ≡ ns
@@ -60,7 +59,7 @@ module _ (a d base : ℕ) (ns₀ : List ℕ) where
   named (suc n) i ns l u K =
       elim (ℕ-discrete x i) [
         | yes e ↦
-            ap (λ (v : ℕ). cells (suc i) n (set ns (base + i) v)) (cond-true (eqb x i) (getD ns₀ d 0) (getD ns₀ (base + i) 0) (eq→eqb e))
+            ap (λ (v : ℕ). cells (suc i) n (set ns (base + i) v)) (when-true (eqb x i) (getD ns₀ d 0) (getD ns₀ (base + i) 0) (eq→eqb e))
             ∙ others n (suc i) (set ns (base + i) (getD ns₀ d 0)) (λ j l u f. omega arith)
             (λ j l. getD-set-other ns (base + i) (base + j) (getD ns₀ d 0) 0 (λ f. omega arith) ∙ K j (omega arith))
             ∙ ap (λ (k : ℕ). set ns (base + k) (getD ns₀ d 0)) (sym e)

@@ -13,7 +13,7 @@ use lib.Dec.{T, not-T, eqb, eqb→eq}
 use lib.ListN.{length, getD, set, length-set}
 use lib.Bits.{bitOr}
 use lib.Seq.{set-getD}
-use Rattle.bits.proofs.Bools.{eq→eqb}
+use Rattle.bits.proofs.Bools.{eq→eqb, when-true, when-false}
 use Rattle.vectors.specs.Row.{Row, row, WellFormed, Covers}
 use Rattle.vectors.specs.Hull.{join}
 use Rattle.vectors.proofs.Rows.{covers-value, value-least, top-greatest}
@@ -27,21 +27,21 @@ use Rattle.steps.proofs.Put.{row-other}
 use Rattle.memories.specs.Effects.{storeEffect, storeEffects, SpanFits}
 use Rattle.lookups.specs.Lookup.{greatest, names, joinIf, storeRow}
 use Rattle.lookups.proofs.Named.{names-covered, covered-named}
-use Rattle.lookups.proofs.Stores.{cond-true, cond-false, store-best}
+use Rattle.lookups.proofs.Stores.{store-best}
 
 -- ---- the three cases of a cell
 
 store-other : (i : ℕ) (a d c : Row) → WellFormed a → ¬ Covers a i → storeRow i a d c ≡ c
 unfolding storeRow
-store-other i a d c A h = cond-false (names a i) (cond (eqb (a .mask) 0) d (join c d)) c (not-T (names a i) (λ t. h (covered-named a A i t)))
+store-other i a d c A h = when-false (names a i) (cond (eqb (a .mask) 0) d (join c d)) c (not-T (names a i) (λ t. h (covered-named a A i t)))
 
 store-known : (i : ℕ) (a d c : Row) → WellFormed a → Covers a i → a .mask ≡ 0 → storeRow i a d c ≡ d
 unfolding storeRow
-store-known i a d c A h e = cond-true (names a i) (cond (eqb (a .mask) 0) d (join c d)) c (names-covered a A i h) ∙ cond-true (eqb (a .mask) 0) d (join c d) (eq→eqb e)
+store-known i a d c A h e = when-true (names a i) (cond (eqb (a .mask) 0) d (join c d)) c (names-covered a A i h) ∙ when-true (eqb (a .mask) 0) d (join c d) (eq→eqb e)
 
 store-doubtful : (i : ℕ) (a d c : Row) → T (not (eqb (a .mask) 0)) → storeRow i a d c ≡ joinIf (names a i) c d
 unfolding storeRow
-store-doubtful i a d c e = ap (λ (r : Row). cond (names a i) r c) (cond-false (eqb (a .mask) 0) d (join c d) e)
+store-doubtful i a d c e = ap (λ (r : Row). cond (names a i) r c) (when-false (eqb (a .mask) 0) d (join c d) e)
 
 -- ---- cell after cell
 

@@ -1,12 +1,13 @@
 -- A record's parts: their targets are the rows that the record writes, each once, and their rows are those that its words name. Assumes nothing.
 use mathlib.Core.Path.{_≡_, refl, sym, ap, _∙_, subst}
 use mathlib.Core.Logic.{_≢_}
-use mathlib.Core.Bool.{Bool, true, false, not, cond, _&&_}
+use mathlib.Core.Bool.{Bool, true, false, not, cond}
 use mathlib.Core.List.{List, [], _∷_, map}
 use Prim.Native.Nat.{ℕ, zero, suc, _+_}
 use native.Mathlib.Omega.{arith}
 use lib.Dec.{T}
 use Rattle.bits.specs.Counted.{listed}
+use Rattle.bits.proofs.Bools.{and-true, when-true, when-false}
 use Rattle.vectors.specs.Lists.{All, Distinct, allOf}
 use Rattle.vectors.proofs.ListParts.{listed-all, all-listed, listed-map, listed-from}
 use Rattle.operations.specs.Kind.{asks, Use, asRow, asNumber, asCount, asBase, unused, isRow, isBase, Kind}
@@ -64,19 +65,11 @@ module _ (words : List ℕ) where
 
   pub one-part : T (isRow (kindIn words .use-t)) → partsOf words ≡ wholePart words ∷ []
   unfolding partsOf
-  one-part t = go (isRow (kindIn words .use-t)) t
-    where
-      go : (b : Bool) → T b → cond b (wholePart words ∷ []) (listed (cellPart words) 0 count) ≡ wholePart words ∷ []
-      go true t = refl
-      go false t = absurd t
+  one-part = when-true (isRow (kindIn words .use-t)) (wholePart words ∷ []) (listed (cellPart words) 0 count)
 
   pub one-target : T (isRow (kindIn words .use-t)) → targetRows words ≡ targetWord words ∷ []
   unfolding targetRows
-  one-target t = go (isRow (kindIn words .use-t)) t
-    where
-      go : (b : Bool) → T b → cond b (targetWord words ∷ []) (span base count) ≡ targetWord words ∷ []
-      go true t = refl
-      go false t = absurd t
+  one-target = when-true (isRow (kindIn words .use-t)) (targetWord words ∷ []) (span base count)
 
   pub part-targets : map (λ q. q .target) (partsOf words) ≡ targetRows words
   unfolding partsOf targetRows
@@ -147,11 +140,9 @@ module _ (words : List ℕ) (h : T (isKind (kindWord words))) (none : T (not (is
 
   pub rows-one : rowsNamed words ≡ operands (kindIn words) (firstWord words) (secondWord words) (sixthWord words ∷ [])
   unfolding rowsNamed
-  rows-one = ap (operands (kindIn words) (firstWord words) (secondWord words)) (go (isBase (kindIn words .use-c)) none)
-    where
-      go : (b : Bool) → T (not b) → cond b (span (sixthWord words) (parameterWord words)) (sixthWord words ∷ []) ≡ sixthWord words ∷ []
-      go true t = absurd t
-      go false t = refl
+  rows-one =
+      ap (operands (kindIn words) (firstWord words) (secondWord words))
+      (when-false (isBase (kindIn words .use-c)) (span (sixthWord words) (parameterWord words)) (sixthWord words ∷ []) none)
 
 -- check 9 of a record that writes one row
 pub one-fits : (widths words : List ℕ) → T (isKind (kindWord words)) → T (not (isBase (kindIn words .use-c)))
@@ -162,7 +153,3 @@ one-fits widths words h none =
     ap (allOf (partFits widths words)) (one-part words (target-row words h none))
     ∙ and-true (partFits widths words (wholePart words))
     ∙ ap (λ (l : List ℕ). asks (kindIn words .rule) (widthAt widths (targetWord words)) (map (widthAt widths) l) (parameterWord words)) (rows-one words h none)
-  where
-    and-true : (b : Bool) → (b && true) ≡ b
-    and-true true = refl
-    and-true false = refl

@@ -7,7 +7,7 @@ use Prim.Native.Nat.{ℕ, _-_, _≤_}
 use native.Mathlib.Omega.{arith}
 use lib.Dec.{eqb}
 use lib.ListN.{length}
-use Rattle.bits.proofs.Bools.{T-right}
+use Rattle.bits.proofs.Bools.{T-right, by-cond}
 use Rattle.bits.proofs.Bits.{digit-lt}
 use Rattle.bits.specs.Limits.{widthLimit}
 use Rattle.grammar.specs.Lists.{same}
@@ -15,7 +15,6 @@ use Rattle.vectors.specs.Lists.{allOf}
 use Rattle.grammar.specs.Words.{Edition, numberCount, sixFor, rowWord, opWord, lockedWord}
 use Rattle.grammar.specs.Print.{LineRow, Line, rowLine, recordLine, outside}
 use Rattle.grammar.specs.Line.{isNumber, numberOf, isVector, vectorOf, isLock, lockOf, isName, numberNamed, rowOf, recordIn, lineOf}
-use Rattle.grammar.proofs.Tests.{by-cond}
 use Rattle.grammar.proofs.Vectors.{vector-tests}
 
 abbrev Small : Line → Type 0
