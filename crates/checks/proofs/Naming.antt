@@ -1,8 +1,8 @@
 -- Checks 6 to 8 of a record; its words in the word slice. Assumes nothing.
 use mathlib.Core.Path.{_≡_, refl, sym, ap, subst, _∙_}
-use mathlib.Core.Bool.{Bool, true, false, not, _&&_}
+use mathlib.Core.Bool.{Bool, true, false, not, cond, _&&_}
 use mathlib.Core.List.{List, [], _∷_}
-use Prim.Native.Nat.{ℕ, suc, _+_, _≤_, _<_}
+use Prim.Native.Nat.{ℕ, zero, suc, _+_, _-_, _*_, _/_, _%_, _≤_, _<_}
 use native.Mathlib.Numerals.{add-one, add-two, add-three, add-four}
 use native.Mathlib.Omega.{arith}
 use borrow.Author.Tests.{ltb-true, not-false}
@@ -14,22 +14,29 @@ use Rattle.operations.specs.Kinds.{isKind, kindOf}
 use Rattle.operations.specs.declared.Record.{Record}
 use Rattle.operations.specs.Record.{wordsOf}
 use Rattle.operations.specs.Faults.{Fault, wordOutside, spanOutside, misused, namedFaults}
-use Rattle.operations.specs.Encoding.{isPlain}
+use Rattle.operations.specs.Encoding.{isPlain, isNumber, wordClass}
 use Rattle.operations.specs.Limits.{recordWords, parameterLimit}
 use Rattle.bits.proofs.Bools.{T-not-not, not-not-T}
-use Rattle.operations.proofs.Sound.{first-is-row, target-is-row, second-plain, parameter-plain, sixth-plain, parameter-no-row}
+use Rattle.operations.proofs.Sound.{first-is-row, target-is-row, second-plain, second-no-number, parameter-plain, sixth-plain, sixth-no-number, parameter-no-row, class-second, class-parameter, class-sixth, class-few}
 use Rattle.checks.specs.Check.{placed, Passed}
 use Rattle.checks.specs.Limits.{rowLimit}
-use Rattle.checks.specs.Encoding.{limitOf, WordsPassed}
+use Rattle.checks.specs.Encoding.{WordsPassed}
 
 -- ---- words below their limits
 
-in-limit : (u : Use) → T (isPlain u) → (n word : ℕ) → word < limitOf n u → T (not (wordOutside n u word)) × T (not (misused u word))
-in-limit asRow t n word h = (not-T (leb n word) (λ t. let z = leb→le n word t in omega arith), tt)
-in-limit asNumber t n word h = (tt, not-T (ltb parameterLimit word) (λ t. let z = ltb→lt parameterLimit word t in omega arith))
-in-limit asCount t n word h = absurd t
-in-limit asBase t n word h = absurd t
-in-limit unused t n word h = (tt, let z : word ≡ 0 = omega arith in rw z tt)
+row-below : (u : Use) → T (isPlain u) → T (not (isNumber u)) → (n word : ℕ) → word < cond (isRow u) n 1 → T (not (wordOutside n u word)) × T (not (misused u word))
+row-below asRow p q n word h = (not-T (leb n word) (λ t. let z = leb→le n word t in omega arith), tt)
+row-below asNumber p q n word h = absurd q
+row-below asCount p q n word h = absurd p
+row-below asBase p q n word h = absurd p
+row-below unused p q n word h = (tt, let z : word ≡ 0 = omega arith in rw z tt)
+
+number-below : (u : Use) → T (isPlain u) → T (not (isRow u)) → (n word : ℕ) → word < cond (isNumber u) (suc parameterLimit) 1 → T (not (wordOutside n u word)) × T (not (misused u word))
+number-below asRow p q n word h = absurd q
+number-below asNumber p q n word h = (tt, not-T (ltb parameterLimit word) (λ t. let z = ltb→lt parameterLimit word t in omega arith))
+number-below asCount p q n word h = absurd p
+number-below asBase p q n word h = absurd p
+number-below unused p q n word h = (tt, let z : word ≡ 0 = omega arith in rw z tt)
 
 -- the kind's number, as the code tests it
 pub kind-in : (n : ℕ) (b : Bool) → b ≡ isKind n → not b ≡ false → T (isKind n)
@@ -62,13 +69,28 @@ module _ (n : ℕ) (r : Record) (known : T (isKind (r .kind))) where
         go true t = absurd t
         go false t = refl
 
-    pub passes : leb n (r .t) ≡ false → leb n (r .a) ≡ false → ltb (r .b) (limitOf n (kindOf (r .kind) .use-b)) ≡ true
-        → ltb (r .p) (limitOf n (kindOf (r .kind) .use-p)) ≡ true → ltb (r .c) (limitOf n (kindOf (r .kind) .use-c)) ≡ true
+    -- the class of its words, in the parts that the code takes: each is 0 or 1
+    pub class-parts : (class : ℕ) → class ≡ wordClass (kindOf (r .kind)) → (class / 2 * (1 - class % 2) < 2) × (class / 2 * (class % 2) < 2)
+    class-parts class e = go class (let f = class-few (r .kind) known none in omega arith)
+      where
+        go : (c : ℕ) → c < 4 → (c / 2 * (1 - c % 2) < 2) × (c / 2 * (c % 2) < 2)
+        go zero h = (omega arith, omega arith)
+        go (suc zero) h = (omega arith, omega arith)
+        go (suc (suc zero)) h = (omega arith, omega arith)
+        go (suc (suc (suc zero))) h = (omega arith, omega arith)
+        go (suc (suc (suc (suc c)))) h = absurd (omega arith)
+
+    -- under the code's name for the class of its words
+    pub passes : (class : ℕ) → class ≡ wordClass (kindOf (r .kind)) → leb n (r .t) ≡ false → leb n (r .a) ≡ false → ltb (r .b) (cond (eqb (class % 2) 1) n 1) ≡ true
+        → ltb (r .p) (cond (eqb (class / 2 * (1 - class % 2)) 1) (suc parameterLimit) 1) ≡ true → ltb (r .c) (cond (eqb (class / 2 * (class % 2)) 1) n 1) ≡ true
         → Passed (placed 0 (namedFaults n (wordsOf r)))
-    passes et ea eb ep ec =
-        let x = in-limit (kindOf (r .kind) .use-b) (second-plain (r .kind) known) n (r .b) (ltb-true _ _ eb) in
-        let y = in-limit (kindOf (r .kind) .use-p) (parameter-plain (r .kind) known none) n (r .p) (ltb-true _ _ ep) in
-        let z = in-limit (kindOf (r .kind) .use-c) (sixth-plain (r .kind) known none) n (r .c) (ltb-true _ _ ec) in (
+    passes class e et ea eb ep ec =
+        let x = row-below (kindOf (r .kind) .use-b) (second-plain (r .kind) known) (second-no-number (r .kind) known) n (r .b)
+        (limit-told (eqb (class % 2) 1) n (ap (λ (m : ℕ). eqb (m % 2) 1) e ∙ class-second (r .kind) known none) eb) in
+        let y = number-below (kindOf (r .kind) .use-p) (parameter-plain (r .kind) known none) (parameter-no-row (r .kind) known) n (r .p)
+        (limit-told (eqb (class / 2 * (1 - class % 2)) 1) (suc parameterLimit) (ap (λ (m : ℕ). eqb (m / 2 * (1 - m % 2)) 1) e ∙ class-parameter (r .kind) known none) ep) in
+        let z = row-below (kindOf (r .kind) .use-c) (sixth-plain (r .kind) known none) (sixth-no-number (r .kind) known) n (r .c)
+        (limit-told (eqb (class / 2 * (class % 2)) 1) n (ap (λ (m : ℕ). eqb (m / 2 * (m % 2)) 1) e ∙ class-sixth (r .kind) known none) ec) in (
           not-not-T (isKind (r .kind)) known,
           (
             rw (target-outside ∙ et) tt,
@@ -78,6 +100,9 @@ module _ (n : ℕ) (r : Record) (known : T (isKind (r .kind))) where
             ),
           ),
         )
+      where
+        limit-told : {word : ℕ} (b : Bool) (limit : ℕ) {d : Bool} → b ≡ d → ltb word (cond b limit 1) ≡ true → word < cond d limit 1
+        limit-told {word} b limit {d} f t = ltb-true word (cond d limit 1) (ap (λ (c : Bool). ltb word (cond c limit 1)) (sym f) ∙ t)
 
 -- ---- what a record that passed them gives
 

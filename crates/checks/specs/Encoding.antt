@@ -1,6 +1,6 @@
 -- How the code's tables write what a kind's description says. Cited by contracts of inner functions alone: no public contract rests on it.
 --   byteLimit    the greatest number of a byte
---   limitOf n u  the number that a word must be below, where it has nothing to do with cells;   Reads r n b c   the rows that a rule asks for are there
+--   Reads r n b c   the rows that a rule asks for are there
 --   spanFaults   checks 7 and 8 of a load and of a store, those that can fail
 --   WordsPassed n words       a record passed checks 6 to 8, in a table of n rows
 --   TargetsIn n r             the rows that a record writes are in a table of n rows
@@ -9,7 +9,7 @@
 --   RowSlices    the four row slices have one length (check 2 passed)
 use mathlib.Core.Bool.{Bool, true, false, not}
 use mathlib.Core.List.{List, [], _∷_, _++_}
-use Prim.Native.Nat.{ℕ, suc, _+_, _≤_, _<_}
+use Prim.Native.Nat.{ℕ, _+_, _≤_, _<_}
 use lib.Dec.{T, leb, ltb, eqb}
 use mathlib.Core.Path.{_≡_}
 use lib.ListN.{length}
@@ -19,21 +19,12 @@ use Rattle.bits.specs.Counted.{rising}
 use Rattle.checks.specs.Check.{Check, placed, Passed}
 use Rattle.checks.specs.Table.{Table, recordCount, recordOf}
 use Rattle.checks.specs.Checks.{rowShapeFaults, wordFaults, rowChecks}
-use Rattle.operations.specs.Limits.{parameterLimit}
-use Rattle.operations.specs.Kind.{Use, asRow, asNumber, asCount, asBase, unused, Rule, sameWidth, sameWidths, takenWidth, joinedWidths, extendedWidth, comparedWidths, chosenWidths, cellWidths, isRow}
+use Rattle.operations.specs.Kind.{Rule, sameWidth, sameWidths, takenWidth, joinedWidths, extendedWidth, comparedWidths, chosenWidths, cellWidths, isRow}
 use Rattle.operations.specs.Kinds.{kindOf}
 use Rattle.operations.specs.declared.Record.{Record}
 
 abbrev pub byteLimit : ℕ
 byteLimit = 255
-
--- the number that a word must be below, in a table of n rows, to be neither outside it nor misused
-abbrev pub limitOf : ℕ → Use → ℕ
-limitOf n asRow = n
-limitOf n asNumber = suc parameterLimit
-limitOf n asCount = 1
-limitOf n asBase = 1
-limitOf n unused = 1
 
 -- the words that name rows whose widths the rule asks for name rows of the table, which has n rows
 abbrev pub Reads : Rule → ℕ → ℕ → ℕ → Type 0

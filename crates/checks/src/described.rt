@@ -1,7 +1,7 @@
 // What a word may be and what a rule asks of the widths, by the codes that the kinds are described with.
 ghost use mathlib.Core.Path.{_≡_};
 ghost use mathlib.Core.List.{[], _∷_};
-ghost use mathlib.Core.Bool.{_&&_};
+ghost use mathlib.Core.Bool.{cond, _&&_};
 ghost use Prim.Native.Nat.{_≤_, _<_};
 ghost use lib.Dec.{T, eqb, leb, ltb};
 ghost use lib.ListN.{length};
@@ -9,7 +9,7 @@ ghost use Rattle.operations.specs.Kind.{Use, asks};
 ghost use Rattle.operations.specs.Record.{widthAt};
 ghost use Rattle.operations.specs.Faults.{wordOutside, misused};
 ghost use Rattle.operations.specs.Encoding.{useCode, isPlain, ruleNumbered};
-ghost use Rattle.checks.specs.Encoding.{byteLimit, limitOf, Reads};
+ghost use Rattle.checks.specs.Encoding.{byteLimit, Reads};
 ghost use Rattle.checks.specs.Limits.{rowLimit};
 use crate::limits::PARAMETER_LIMIT;
 use bits::index;
@@ -45,24 +45,21 @@ pub fn word_misused(code: u64, word: u32) -> bool
     word != 0
 }
 
-// The number that a word must be below, where it is used as the code says, in a table of n rows: then it is neither of the two.
-fn word_limit(code: u64, n: usize) -> usize
-    ensures { λ r. ⌜ ((u : Use) → code ≡ useCode u → r ≡ limitOf n u) ⌝ }
+// The number that a word must be below: a limit where the word is used (1), else (0) 1. Without a branch, since records of many kinds come one after another.
+fn limit_where(used: u64, limit: usize) -> usize
+    requires { ⌜ used < 2 ⌝ }
+    ensures { λ r. ⌜ r ≡ cond (eqb used 1) limit 1 ⌝ }
 {
-    if code == 1 {
-        return n;
-    }
-    if code == 2 {
-        return index(PARAMETER_LIMIT) + 1;
-    }
-    1
+    let u = used as usize;
+    u * limit + (1 - u)
 }
 
-// Whether a word is below it.
-pub fn word_within(code: u64, n: usize, word: u32) -> bool
-    ensures { λ r. ⌜ ((u : Use) → code ≡ useCode u → r ≡ ltb word (limitOf n u)) ⌝ }
+// Whether a word is below its limit, where it is used (1), and 0 where not (0).
+pub fn word_within(used: u64, limit: usize, word: u32) -> bool
+    requires { ⌜ used < 2 ⌝ }
+    ensures { λ r. ⌜ r ≡ ltb word (cond (eqb used 1) limit 1) ⌝ }
 {
-    index(word) < word_limit(code, n)
+    index(word) < limit_where(used, limit)
 }
 
 // The width of a row.

@@ -14,6 +14,7 @@ use crate::described::row_outside;
 use crate::described::word_misused;
 use crate::described::word_outside;
 use crate::described::word_within;
+use crate::limits::PARAMETER_LIMIT;
 use crate::refusals;
 use crate::refuse;
 use operations::Record;
@@ -22,6 +23,10 @@ use operations::is_kind;
 use operations::parameter_use;
 use operations::second_use;
 use operations::sixth_use;
+use operations::word_class;
+
+// The number that a shift, rotation or extract parameter must be below.
+const PARAMETERS: usize = PARAMETER_LIMIT as usize + 1;
 
 // Whether a record of a known kind without cells passes checks 7 and 8, in a table of n rows: a word is below its limit exactly where neither refuses it.
 fn words_pass(n: usize, r: Record) -> bool
@@ -34,13 +39,16 @@ fn words_pass(n: usize, r: Record) -> bool
     if row_outside(n, r.a) {
         return false;
     }
-    if !word_within(second_use(r.kind), n, r.b) {
+    let class = word_class(r.kind);
+    let low = class % 2;
+    let high = class / 2;
+    if !word_within(low, n, r.b) {
         return false;
     }
-    if !word_within(parameter_use(r.kind), n, r.p) {
+    if !word_within(high * (1 - low), PARAMETERS, r.p) {
         return false;
     }
-    word_within(sixth_use(r.kind), n, r.c)
+    word_within(high * low, n, r.c)
 }
 
 // What the word b, p or the sixth is to the record's kind, which is without cells: outside the table, or none that it may have.

@@ -8,7 +8,7 @@ use Rattle.bits.specs.Bit.{digit}
 use Rattle.bits.specs.Below.{allBelow}
 use Rattle.operations.specs.Kind.{Rule, sameWidth, sameWidths, takenWidth, joinedWidths, extendedWidth, comparedWidths, chosenWidths, cellWidths, Kind}
 use Rattle.operations.specs.Kinds.{kinds, kindCount, isKind, kindOf}
-use Rattle.operations.specs.Encoding.{useCode, ruleCode, ruleNumbered, digitOf}
+use Rattle.operations.specs.Encoding.{useCode, wordClass, ruleCode, ruleNumbered, digitOf}
 use Rattle.operations.proofs.Lookup.{kind-test}
 
 packed : (Kind → ℕ) → List Kind → ℕ
@@ -58,6 +58,10 @@ module _ (n : ℕ) (h : T (isKind n)) where
   pub sixth-is : digitsOf (λ k. useCode (k .use-c)) n ≡ useCode (kindOf n .use-c)
   unfolding allBelow kindCount kindOf digitsOf
   sixth-is = equal (digitsOf sixthOf) (λ m. sixthOf (kindOf m)) tt
+
+  pub class-is : digitsOf wordClass n ≡ wordClass (kindOf n)
+  unfolding allBelow kindCount kindOf digitsOf
+  class-is = equal (digitsOf wordClass) (λ m. wordClass (kindOf m)) tt
 
   pub rule-is : pairsOf (λ k. ruleCode (k .rule)) n ≡ ruleCode (kindOf n .rule)
   unfolding allBelow kindCount kindOf pairsOf

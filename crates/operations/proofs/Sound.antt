@@ -3,14 +3,14 @@
 --   first-is-row, rule-suits, condition-chosen, second-is-row, ..   the tests, of the kind that has a number
 use mathlib.Core.Path.{_≡_, refl}
 use mathlib.Core.Bool.{Bool, true, false, not, cond, _&&_, _||_}
-use Prim.Native.Nat.{ℕ}
+use Prim.Native.Nat.{ℕ, _-_, _*_, _/_, _%_, _<_}
 use mathlib.Core.Logic.{inl, inr}
-use lib.Dec.{T, leb, eqb, eqb→eq}
+use lib.Dec.{T, T-not, leb, ltb, eqb, eqb→eq, ltb→lt}
 use Rattle.bits.specs.Below.{allBelow}
 use Rattle.bits.proofs.Bools.{T-left, T-right, T-or}
 use Rattle.operations.specs.Kind.{Use, asRow, asNumber, asCount, asBase, unused, isRow, isBase, Rule, sameWidth, sameWidths, takenWidth, joinedWidths, extendedWidth, comparedWidths, chosenWidths, cellWidths, Kind}
 use Rattle.operations.specs.Kinds.{kindCount, isKind, kindOf}
-use Rattle.operations.specs.Encoding.{isPlain}
+use Rattle.operations.specs.Encoding.{isPlain, isNumber, wordClass}
 use Rattle.operations.proofs.Lookup.{kind-test}
 
 pub row-is : (u : Use) → T (isRow u) → u ≡ asRow
@@ -93,6 +93,15 @@ module _ (n : ℕ) (h : T (isKind n)) where
   unfolding allBelow kindCount kindOf
   second-plain = kind-test (λ m. isPlain (kindOf m .use-b)) tt n h
 
+  -- the words b and the sixth are no numbers
+  pub second-no-number : T (not (isNumber (k .use-b)))
+  unfolding allBelow kindCount kindOf
+  second-no-number = kind-test (λ m. not (isNumber (kindOf m .use-b))) tt n h
+
+  pub sixth-no-number : T (not (isNumber (k .use-c)))
+  unfolding allBelow kindCount kindOf
+  sixth-no-number = kind-test (λ m. not (isNumber (kindOf m .use-c))) tt n h
+
   -- the word p is no row
   pub parameter-no-row : T (not (isRow (k .use-p)))
   unfolding allBelow kindCount kindOf
@@ -149,6 +158,14 @@ module _ (n : ℕ) (h : T (isKind n)) where
     unfolding allBelow kindCount kindOf
     target-is-row = row-is (k .use-t) (implied (not (isBase (k .use-c))) (isRow (k .use-t)) (kind-test (λ m. not (not (isBase (kindOf m .use-c))) || isRow (kindOf m .use-t)) tt n h) none)
 
+    -- two tests of a kind without cells that a computed test finds to agree
+    told : (p q : ℕ → Bool) → T (allBelow kindCount (λ m. isBase (kindOf m .use-c) || cond (p m) (q m) (not (q m)))) → p n ≡ q n
+    told p q t = same-test (p n) (q n)
+        (elim (T-or (isBase (k .use-c)) (cond (p n) (q n) (not (q n))) (kind-test (λ m. isBase (kindOf m .use-c) || cond (p m) (q m) (not (q m))) t n h)) [
+          | inl z ↦ absurd (T-not (isBase (k .use-c)) none z)
+          | inr y ↦ y
+        ])
+
     uses-plain : T (isPlain (k .use-p) && isPlain (k .use-c))
     unfolding allBelow kindCount kindOf
     uses-plain =
@@ -160,3 +177,20 @@ module _ (n : ℕ) (h : T (isKind n)) where
 
     pub sixth-plain : T (isPlain (k .use-c))
     sixth-plain = T-right (isPlain (k .use-p)) (isPlain (k .use-c)) uses-plain
+
+    -- what the class of its words says
+    pub class-second : eqb (wordClass k % 2) 1 ≡ isRow (k .use-b)
+    unfolding allBelow kindCount kindOf
+    class-second = told (λ m. eqb (wordClass (kindOf m) % 2) 1) (λ m. isRow (kindOf m .use-b)) tt
+
+    pub class-parameter : eqb (wordClass k / 2 * (1 - wordClass k % 2)) 1 ≡ isNumber (k .use-p)
+    unfolding allBelow kindCount kindOf
+    class-parameter = told (λ m. eqb (wordClass (kindOf m) / 2 * (1 - wordClass (kindOf m) % 2)) 1) (λ m. isNumber (kindOf m .use-p)) tt
+
+    pub class-sixth : eqb (wordClass k / 2 * (wordClass k % 2)) 1 ≡ isRow (k .use-c)
+    unfolding allBelow kindCount kindOf
+    class-sixth = told (λ m. eqb (wordClass (kindOf m) / 2 * (wordClass (kindOf m) % 2)) 1) (λ m. isRow (kindOf m .use-c)) tt
+
+    pub class-few : wordClass k < 4
+    unfolding allBelow kindCount kindOf
+    class-few = ltb→lt (wordClass k) 4 (kind-test (λ m. ltb (wordClass (kindOf m)) 4) tt n h)

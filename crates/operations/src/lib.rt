@@ -7,7 +7,7 @@ ghost use lib.Dec.{T, eqb};
 ghost use lib.ListN.{length, getD};
 ghost use Rattle.operations.specs.Kind.{isBase};
 ghost use Rattle.operations.specs.Kinds.{isKind, kindOf};
-ghost use Rattle.operations.specs.Encoding.{digitOf, useCode, ruleCode};
+ghost use Rattle.operations.specs.Encoding.{digitOf, useCode, wordClass, ruleCode};
 
 // A record by its words: kind, target row t, operand rows a and b, parameter p, and the sixth word c, a base row or the condition.
 pub struct Record {
@@ -39,6 +39,10 @@ const PARAMETER: u64 =
 
 // The same of the sixth word.
 const SIXTH: u64 = 0b11_11_00_00_00_01_00_00_00_00_00_00_00_00_00_00_00_00_00_00_00_00_00_00_00_00;
+
+// Which of these words each kind uses: 0 none, 1 b, 2 p, 3 b and the sixth. Of the kinds with cells it says nothing.
+const CLASSES: u64 =
+    0b01_00_01_01_01_11_01_01_01_01_00_01_01_00_00_01_10_10_10_10_10_01_01_01_00_00;
 
 // Whether operands named twice are one number to each kind: 0 no, 1 yes.
 const CORRELATED: u64 =
@@ -98,6 +102,14 @@ pub fn sixth_use(kind: u32) -> u64
     ensures { λ r. ⌜ r ≡ useCode (kindOf kind .use-c) ⌝ }
 {
     digit(SIXTH, kind)
+}
+
+// Which of the words b, p and the sixth a kind without cells uses.
+pub fn word_class(kind: u32) -> u64
+    requires { ⌜ T (isKind kind) ⌝ }
+    ensures { λ r. ⌜ r ≡ wordClass (kindOf kind) ⌝ }
+{
+    digit(CLASSES, kind)
 }
 
 // Whether a kind is a load or a store, which have cells.

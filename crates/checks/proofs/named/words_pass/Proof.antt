@@ -1,31 +1,39 @@
 -- `checks::named::words_pass` meets its contract: each word is below its limit. Assumes nothing.
 use mathlib.Core.Path.{_≡_, sym, subst, _∙_}
 use mathlib.Core.Bool.{true, false}
+use Prim.Native.Nat.{_-_, _*_, _/_, _%_, _<_}
+use native.Mathlib.Omega.{arith}
 use borrow.Author.Needs.{needs}
 use borrow.Author.Tests.{not-false}
 use lib.Dec.{T}
-use Rattle.operations.specs.Kinds.{kindOf}
-use Rattle.checks.proofs.Naming.{passes}
+use Rattle.checks.proofs.Naming.{class-parts, passes}
 use Rattle.checks.proofs.named.words_pass.Statement.{statement}
 use Rattle.checks.proofs.named.words_pass.Tie as tie
 
 no-pass : {A : Type 0} → false ≡ true → A
 no-pass e = absurd (subst T (sym e) tt)
 
+-- where the class of the words is known
+abbrev start : tie.After-word-class → tie.Start
+start c = c .before .before .before .before .before
+
+parts : (c : tie.After-word-class) → let x = c .word-class .result in (x / 2 * (1 - x % 2) < 2) × (x / 2 * (x % 2) < 2)
+parts c = let s = start c in class-parts (s .args .n) (s .args .r) (s .pre .0) (s .pre .1) (c .word-class .result) (c .word-class .ensures)
+
 returns-5 : tie.Need-returns-5
 returns-5 c e =
-    let c4 = c .before .before in
-    let c3 = c4 .before .before .before in
-    let c2 = c3 .before .before .before in
+    let c4 = c .before in
+    let c3 = c4 .before .before in
+    let k = c3 .before .before in
+    let c2 = k .before in
     let c1 = c2 .before .before in
     let s = c1 .before .before in
-    let k = kindOf (s .args .r .kind) in
-    passes (s .args .n) (s .args .r) (s .pre .0) (s .pre .1)
+    passes (s .args .n) (s .args .r) (s .pre .0) (s .pre .1) (k .word-class .result) (k .word-class .ensures)
     (sym (c1 .before .row-outside .ensures) ∙ c1 .if1 .left)
     (sym (c2 .before .row-outside2 .ensures) ∙ c2 .if2 .left)
-    (sym (c3 .before .word-within .ensures (k .use-b) (c3 .before .before .second-use .ensures)) ∙ not-false _ (c3 .if3 .left))
-    (sym (c4 .before .word-within2 .ensures (k .use-p) (c4 .before .before .parameter-use .ensures)) ∙ not-false _ (c4 .if4 .left))
-    (sym (c .word-within3 .ensures (k .use-c) (c .before .sixth-use .ensures)) ∙ e)
+    (sym (c3 .before .word-within .ensures) ∙ not-false _ (c3 .if3 .left))
+    (sym (c4 .before .word-within2 .ensures) ∙ not-false _ (c4 .if4 .left))
+    (sym (c .word-within3 .ensures) ∙ e)
 
 pub words-pass-spec : {M : Type 1} → statement M
 words-pass-spec =
@@ -38,9 +46,10 @@ words-pass-spec =
     (λ c κs. search needs)
     (λ c κs. search needs)
     (λ c e. no-pass e)
-    (λ c κs. search needs)
-    (λ c κs. search needs)
+    (λ c. search needs)
+    (λ c. let z = parts (c .before .before) .0 in omega arith)
+    (λ c κs. parts (c .before .before) .0)
     (λ c e. no-pass e)
-    (λ c κs. search needs)
-    (λ c κs. search needs)
+    (λ c. let z = parts (c .before .before .before .before) .1 in omega arith)
+    (λ c κs. parts (c .before .before .before .before) .1)
     returns-5)
