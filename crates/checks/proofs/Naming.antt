@@ -2,7 +2,7 @@
 use mathlib.Core.Path.{_≡_, refl, sym, ap, subst, _∙_}
 use mathlib.Core.Bool.{Bool, true, false, not, cond, _&&_}
 use mathlib.Core.List.{List, [], _∷_}
-use Prim.Native.Nat.{ℕ, zero, suc, _+_, _-_, _*_, _/_, _%_, _≤_, _<_}
+use Prim.Native.Nat.{ℕ, suc, _+_, _%_, _≤_, _<_}
 use native.Mathlib.Numerals.{add-one, add-two, add-three, add-four}
 use native.Mathlib.Omega.{arith}
 use borrow.Author.Tests.{ltb-true, not-false}
@@ -17,7 +17,7 @@ use Rattle.operations.specs.Faults.{Fault, wordOutside, spanOutside, misused, n
 use Rattle.operations.specs.Encoding.{isPlain, isNumber, wordClass}
 use Rattle.operations.specs.Limits.{recordWords, parameterLimit}
 use Rattle.bits.proofs.Bools.{T-not-not, not-not-T}
-use Rattle.operations.proofs.Sound.{first-is-row, target-is-row, second-plain, second-no-number, parameter-plain, sixth-plain, sixth-no-number, parameter-no-row, class-second, class-parameter, class-sixth, class-few}
+use Rattle.operations.proofs.Sound.{first-is-row, target-is-row, second-plain, second-no-number, parameter-plain, sixth-plain, sixth-no-number, parameter-no-row, class-second, class-parameter, class-sixth}
 use Rattle.checks.specs.Check.{placed, Passed}
 use Rattle.checks.specs.Limits.{rowLimit}
 use Rattle.checks.specs.Encoding.{WordsPassed}
@@ -69,28 +69,17 @@ module _ (n : ℕ) (r : Record) (known : T (isKind (r .kind))) where
         go true t = absurd t
         go false t = refl
 
-    -- the class of its words, in the parts that the code takes: each is 0 or 1
-    pub class-parts : (class : ℕ) → class ≡ wordClass (kindOf (r .kind)) → (class / 2 * (1 - class % 2) < 2) × (class / 2 * (class % 2) < 2)
-    class-parts class e = go class (let f = class-few (r .kind) known none in omega arith)
-      where
-        go : (c : ℕ) → c < 4 → (c / 2 * (1 - c % 2) < 2) × (c / 2 * (c % 2) < 2)
-        go zero h = (omega arith, omega arith)
-        go (suc zero) h = (omega arith, omega arith)
-        go (suc (suc zero)) h = (omega arith, omega arith)
-        go (suc (suc (suc zero))) h = (omega arith, omega arith)
-        go (suc (suc (suc (suc c)))) h = absurd (omega arith)
-
     -- under the code's name for the class of its words
     pub passes : (class : ℕ) → class ≡ wordClass (kindOf (r .kind)) → leb n (r .t) ≡ false → leb n (r .a) ≡ false → ltb (r .b) (cond (eqb (class % 2) 1) n 1) ≡ true
-        → ltb (r .p) (cond (eqb (class / 2 * (1 - class % 2)) 1) (suc parameterLimit) 1) ≡ true → ltb (r .c) (cond (eqb (class / 2 * (class % 2)) 1) n 1) ≡ true
+        → ltb (r .p) (cond (eqb class 2) (suc parameterLimit) 1) ≡ true → ltb (r .c) (cond (eqb class 3) n 1) ≡ true
         → Passed (placed 0 (namedFaults n (wordsOf r)))
     passes class e et ea eb ep ec =
         let x = row-below (kindOf (r .kind) .use-b) (second-plain (r .kind) known) (second-no-number (r .kind) known) n (r .b)
         (limit-told (eqb (class % 2) 1) n (ap (λ (m : ℕ). eqb (m % 2) 1) e ∙ class-second (r .kind) known none) eb) in
         let y = number-below (kindOf (r .kind) .use-p) (parameter-plain (r .kind) known none) (parameter-no-row (r .kind) known) n (r .p)
-        (limit-told (eqb (class / 2 * (1 - class % 2)) 1) (suc parameterLimit) (ap (λ (m : ℕ). eqb (m / 2 * (1 - m % 2)) 1) e ∙ class-parameter (r .kind) known none) ep) in
+        (limit-told (eqb class 2) (suc parameterLimit) (ap (λ (m : ℕ). eqb m 2) e ∙ class-parameter (r .kind) known none) ep) in
         let z = row-below (kindOf (r .kind) .use-c) (sixth-plain (r .kind) known none) (sixth-no-number (r .kind) known) n (r .c)
-        (limit-told (eqb (class / 2 * (class % 2)) 1) n (ap (λ (m : ℕ). eqb (m / 2 * (m % 2)) 1) e ∙ class-sixth (r .kind) known none) ec) in (
+        (limit-told (eqb class 3) n (ap (λ (m : ℕ). eqb m 3) e ∙ class-sixth (r .kind) known none) ec) in (
           not-not-T (isKind (r .kind)) known,
           (
             rw (target-outside ∙ et) tt,

@@ -45,19 +45,19 @@ pub fn word_misused(code: u64, word: u32) -> bool
     word != 0
 }
 
-// The number that a word must be below: a limit where the word is used (1), else (0) 1. Without a branch, since records of many kinds come one after another.
-fn limit_where(used: u64, limit: usize) -> usize
-    requires { ⌜ used < 2 ⌝ }
-    ensures { λ r. ⌜ r ≡ cond (eqb used 1) limit 1 ⌝ }
+// The number that a word must be below: a limit where the word is used, else 1.
+fn limit_where(used: bool, limit: usize) -> usize
+    ensures { λ r. ⌜ r ≡ cond used limit 1 ⌝ }
 {
-    let u = used as usize;
-    u * limit + (1 - u)
+    if used {
+        return limit;
+    }
+    1
 }
 
-// Whether a word is below its limit, where it is used (1), and 0 where not (0).
-pub fn word_within(used: u64, limit: usize, word: u32) -> bool
-    requires { ⌜ used < 2 ⌝ }
-    ensures { λ r. ⌜ r ≡ ltb word (cond (eqb used 1) limit 1) ⌝ }
+// Whether a word is below its limit, where it is used, and 0 where not.
+pub fn word_within(used: bool, limit: usize, word: u32) -> bool
+    ensures { λ r. ⌜ r ≡ ltb word (cond used limit 1) ⌝ }
 {
     index(word) < limit_where(used, limit)
 }

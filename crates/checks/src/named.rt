@@ -40,15 +40,13 @@ fn words_pass(n: usize, r: Record) -> bool
         return false;
     }
     let class = word_class(r.kind);
-    let low = class % 2;
-    let high = class / 2;
-    if !word_within(low, n, r.b) {
+    if !word_within(class % 2 == 1, n, r.b) {
         return false;
     }
-    if !word_within(high * (1 - low), PARAMETERS, r.p) {
+    if !word_within(class == 2, PARAMETERS, r.p) {
         return false;
     }
-    word_within(high * low, n, r.c)
+    word_within(class == 3, n, r.c)
 }
 
 // What the word b, p or the sixth is to the record's kind, which is without cells: outside the table, or none that it may have.

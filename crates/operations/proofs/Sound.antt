@@ -3,9 +3,9 @@
 --   first-is-row, rule-suits, condition-chosen, second-is-row, ..   the tests, of the kind that has a number
 use mathlib.Core.Path.{_≡_, refl}
 use mathlib.Core.Bool.{Bool, true, false, not, cond, _&&_, _||_}
-use Prim.Native.Nat.{ℕ, _-_, _*_, _/_, _%_, _<_}
+use Prim.Native.Nat.{ℕ, _%_}
 use mathlib.Core.Logic.{inl, inr}
-use lib.Dec.{T, T-not, leb, ltb, eqb, eqb→eq, ltb→lt}
+use lib.Dec.{T, T-not, leb, eqb, eqb→eq}
 use Rattle.bits.specs.Below.{allBelow}
 use Rattle.bits.proofs.Bools.{T-left, T-right, T-or}
 use Rattle.operations.specs.Kind.{Use, asRow, asNumber, asCount, asBase, unused, isRow, isBase, Rule, sameWidth, sameWidths, takenWidth, joinedWidths, extendedWidth, comparedWidths, chosenWidths, cellWidths, Kind}
@@ -183,14 +183,10 @@ module _ (n : ℕ) (h : T (isKind n)) where
     unfolding allBelow kindCount kindOf
     class-second = told (λ m. eqb (wordClass (kindOf m) % 2) 1) (λ m. isRow (kindOf m .use-b)) tt
 
-    pub class-parameter : eqb (wordClass k / 2 * (1 - wordClass k % 2)) 1 ≡ isNumber (k .use-p)
+    pub class-parameter : eqb (wordClass k) 2 ≡ isNumber (k .use-p)
     unfolding allBelow kindCount kindOf
-    class-parameter = told (λ m. eqb (wordClass (kindOf m) / 2 * (1 - wordClass (kindOf m) % 2)) 1) (λ m. isNumber (kindOf m .use-p)) tt
+    class-parameter = told (λ m. eqb (wordClass (kindOf m)) 2) (λ m. isNumber (kindOf m .use-p)) tt
 
-    pub class-sixth : eqb (wordClass k / 2 * (wordClass k % 2)) 1 ≡ isRow (k .use-c)
+    pub class-sixth : eqb (wordClass k) 3 ≡ isRow (k .use-c)
     unfolding allBelow kindCount kindOf
-    class-sixth = told (λ m. eqb (wordClass (kindOf m) / 2 * (wordClass (kindOf m) % 2)) 1) (λ m. isRow (kindOf m .use-c)) tt
-
-    pub class-few : wordClass k < 4
-    unfolding allBelow kindCount kindOf
-    class-few = ltb→lt (wordClass k) 4 (kind-test (λ m. ltb (wordClass (kindOf m)) 4) tt n h)
+    class-sixth = told (λ m. eqb (wordClass (kindOf m)) 3) (λ m. isRow (kindOf m .use-c)) tt

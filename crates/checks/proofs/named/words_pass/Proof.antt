@@ -1,24 +1,15 @@
 -- `checks::named::words_pass` meets its contract: each word is below its limit. Assumes nothing.
 use mathlib.Core.Path.{_≡_, sym, subst, _∙_}
 use mathlib.Core.Bool.{true, false}
-use Prim.Native.Nat.{_-_, _*_, _/_, _%_, _<_}
-use native.Mathlib.Omega.{arith}
 use borrow.Author.Needs.{needs}
 use borrow.Author.Tests.{not-false}
 use lib.Dec.{T}
-use Rattle.checks.proofs.Naming.{class-parts, passes}
+use Rattle.checks.proofs.Naming.{passes}
 use Rattle.checks.proofs.named.words_pass.Statement.{statement}
 use Rattle.checks.proofs.named.words_pass.Tie as tie
 
 no-pass : {A : Type 0} → false ≡ true → A
 no-pass e = absurd (subst T (sym e) tt)
-
--- where the class of the words is known
-abbrev start : tie.After-word-class → tie.Start
-start c = c .before .before .before .before .before
-
-parts : (c : tie.After-word-class) → let x = c .word-class .result in (x / 2 * (1 - x % 2) < 2) × (x / 2 * (x % 2) < 2)
-parts c = let s = start c in class-parts (s .args .n) (s .args .r) (s .pre .0) (s .pre .1) (c .word-class .result) (c .word-class .ensures)
 
 returns-5 : tie.Need-returns-5
 returns-5 c e =
@@ -46,10 +37,7 @@ words-pass-spec =
     (λ c κs. search needs)
     (λ c κs. search needs)
     (λ c e. no-pass e)
-    (λ c. search needs)
-    (λ c. let z = parts (c .before .before) .0 in omega arith)
-    (λ c κs. parts (c .before .before) .0)
+    (λ c κs. search needs)
     (λ c e. no-pass e)
-    (λ c. let z = parts (c .before .before .before .before) .1 in omega arith)
-    (λ c κs. parts (c .before .before .before .before) .1)
+    (λ c κs. search needs)
     returns-5)
