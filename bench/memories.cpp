@@ -49,18 +49,6 @@ Table draw_table(const Trial &trial)
     return t;
 }
 
-// The best vector that covers both.
-Planes join(Planes x, Planes y)
-{
-    uint32_t mask = x.mask | y.mask | (x.value ^ y.value);
-    return {mask, x.value & ~mask};
-}
-
-Planes row_at(const Table &t, uint32_t i)
-{
-    return {t.mask[i], t.value[i]};
-}
-
 // A record's step by plain code: a load joins the cells that the address covers, a store joins old and new in each of them. All addresses
 // are below 256.
 void step(Table &t, const uint32_t *w)

@@ -14,4 +14,11 @@ inline uint32_t ones(uint32_t width)
     return UINT32_MAX >> (32 - width);
 }
 
+// The best vector that covers both.
+inline Planes join(Planes x, Planes y)
+{
+    uint32_t mask = x.mask | y.mask | (x.value ^ y.value);
+    return {mask, x.value & ~mask};
+}
+
 #endif

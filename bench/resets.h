@@ -23,11 +23,6 @@ inline const Kinds mixed = {RIFFLERLEEK_KIND_COPY, RIFFLERLEEK_KIND_NOT,     RIF
                             RIFFLERLEEK_KIND_ROTL, RIFFLERLEEK_KIND_EXTRACT, RIFFLERLEEK_KIND_ZEXT, RIFFLERLEEK_KIND_SEXT,
                             RIFFLERLEEK_KIND_ADD,  RIFFLERLEEK_KIND_SUB,     RIFFLERLEEK_KIND_NEG,  RIFFLERLEEK_KIND_MUL};
 
-inline std::size_t records_of(const Table &t)
-{
-    return t.words.size() / RIFFLERLEEK_RECORD_WORDS;
-}
-
 inline uint32_t last_target(const Table &t)
 {
     return t.words[t.words.size() - RIFFLERLEEK_RECORD_WORDS + 1];

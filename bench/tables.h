@@ -1,12 +1,8 @@
-// Random tables that every check passes, and runs of them.
+// Random tables that every check passes.
 #ifndef TABLES_H
 #define TABLES_H
 
-#include "measure.h"
-#include "rifflerleek.h"
-#include <cstdio>
-#include <cstdlib>
-#include <cstring>
+#include "lent.h"
 
 inline constexpr uint32_t RECORDS = 1024, KINDS = 24, UNKNOWN = 4;
 
@@ -29,11 +25,6 @@ struct Plan {
     const Groups &groups;
     bool chained, twice;
     uint32_t first_kind, kinds;
-};
-
-struct Table {
-    std::vector<uint8_t> width, lock;
-    std::vector<uint32_t> mask, value, words;
 };
 
 // By kind, without those that have cells.
@@ -142,30 +133,6 @@ inline std::vector<Table> draw_tables(uint32_t kinds)
         tables.push_back(draw_table(random, plan));
     }
     return tables;
-}
-
-using Run = decltype(rifflerleek_run);
-
-// Runs the records before last; a refusal ends the program.
-inline void run_records(Run *run, Table &t, std::size_t last)
-{
-    std::size_t rows = t.width.size();
-    rifflerleek_answer a = run(t.width.data(), rows, t.lock.data(), rows, t.mask.data(), rows, t.value.data(), rows,
-                               t.words.data(), t.words.size(), 0, last);
-    if (a.refusal != RIFFLERLEEK_DONE) {
-        std::printf("run: refusal %u\n", a.refusal);
-        std::exit(1);
-    }
-}
-
-// A run from the start rows, which are copied into the table first.
-inline Pass pass_from(Run *run, Table &t, const Table &start, std::size_t last)
-{
-    return [run, &t, &start, last] {
-        std::memcpy(t.mask.data(), start.mask.data(), t.mask.size() * sizeof t.mask[0]);
-        std::memcpy(t.value.data(), start.value.data(), t.value.size() * sizeof t.value[0]);
-        run_records(run, t, last);
-    };
 }
 
 #endif

@@ -1,6 +1,7 @@
 // The calls of Rifflerleek on vectors that stand in no table.
 
-use crate::{given, result, rifflerleek, Refusal};
+use crate::rifflerleek;
+use crate::table::{given, result, Refusal};
 
 /// A vector that stands in no table.
 pub(crate) struct Bare {

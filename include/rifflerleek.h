@@ -3,7 +3,7 @@
  * A table has 1 to RIFFLERLEEK_ROW_LIMIT rows, lent as four slices of equal length, and at most RIFFLERLEEK_RECORD_LIMIT records
  * of RIFFLERLEEK_RECORD_WORDS words each. Rows and records count from 0.
  *   width[i]  the width of row i, 1 to RIFFLERLEEK_WIDTH_LIMIT
- *   lock[i]   0 open, 1 locked: a locked row is no record's target, and in no store's span
+ *   lock[i]   0 open, 1 locked: a locked row is no record's target, in no store's span and no state row
  *   mask[i]   bit k is 1 where bit k of the row is unknown (X)
  *   value[i]  bit k is the row's bit k where that is known, and 0 where it is unknown
  *   words     per record: kind, target row t, operand rows a and b, parameter p, and a sixth word c: the base row of a load or a store,
@@ -16,6 +16,12 @@
  * Address, data and cells are chosen independently, even where they are one row, and all are read before a row is written. So where the
  * address is not known a load gives the best vector that covers every cell it can name, and 0 where it can be n or more; and a store
  * leaves in every cell it can name, but need not, the best vector that covers the old and the new.
+ *
+ * Clocks. Where the records are what one clock does, lent pairs name a state row and its next row, whose number goes to the state row
+ * after the clock.
+ *
+ * States. A call on two states takes no table. It is lent one width slice and, for each state, a mask slice and a value slice, as many
+ * rows in each and with the same meaning as a table's.
  *
  * Bare vectors. A call on bare vectors takes no table. It is passed, as numbers, one width and a mask and a value for each vector,
  * with the same meaning as a row's.
@@ -44,7 +50,7 @@ extern "C" {
 
 /* Rises by one with every change that a host can see: of a name, a number, a call, an answer or a lent byte. The header that had
  * no version is version 1. CHANGELOG.md names the changes. */
-#define RIFFLERLEEK_VERSION 12
+#define RIFFLERLEEK_VERSION 13
 
 /* Limits. */
 #define RIFFLERLEEK_ROW_LIMIT 256      /* rows in a table */
@@ -80,6 +86,8 @@ extern "C" {
  *   rifflerleek_witnesses        3    568
  *   rifflerleek_range            1     80
  *   rifflerleek_reset_bits       5   2936
+ *   rifflerleek_settle           5   2872
+ *   rifflerleek_compare_states   1     64
  */
 #define RIFFLERLEEK_DEPTH_LIMIT 5    /* the greatest depth of a call */
 #define RIFFLERLEEK_STACK_LIMIT 2936 /* the greatest stack of a call, in bytes */
@@ -143,35 +151,50 @@ enum {
  *   product_bit        4, 5, 15
  *   witnesses          4, 5, 6, 15, 16
  *   range              4, 5, 17, 18
- *   reset_bits         1 to 10 as run of all records; then 7 of the row named, 15, 19 */
+ *   reset_bits         1 to 10 as run of all records; then 7 of the row named, 15, 19
+ *   settle             1 to 10 as run of all records; then 20
+ *   compare_states     1, 2; then the rows from 0 on, at each 4, 5 of the first state, 5 of the second */
 enum {
-    RIFFLERLEEK_DONE = 0,            /* no refusal */
-    RIFFLERLEEK_REFUSED_ROWS = 1,    /* the width slice has no row, or more than the row limit; place 0 */
-    RIFFLERLEEK_REFUSED_LENGTHS = 2, /* the four row slices differ in length; place 0 */
-    RIFFLERLEEK_REFUSED_RECORDS = 3, /* the words are not whole records, of six each, or more than the record limit; in run also: first
-                                        is after last, or last is past the end; place 0 */
-    RIFFLERLEEK_REFUSED_WIDTH = 4,   /* a width is 0 or over the width limit, or a lock is over 1; the row (of bare vectors: 0) */
-    RIFFLERLEEK_REFUSED_VECTOR = 5,  /* mask and value share a set bit, or one has a bit at or above the width; the row (of bare
-                                        vectors: 0) */
-    RIFFLERLEEK_REFUSED_KIND = 6,    /* no kind has this number; the record. In witnesses: the kind is not add, sub or mul; place 0 */
-    RIFFLERLEEK_REFUSED_ROW = 7,     /* a used row word is outside the table, a base row and a condition among them, or a span ends past
-                                        it; the record. Or the row that count or reset_bits is asked of is; that row */
-    RIFFLERLEEK_REFUSED_WORD = 8,    /* an unused word is not 0, a parameter is over the parameter limit, or a span has no cell; the
-                                        record */
-    RIFFLERLEEK_REFUSED_FIT = 9,     /* the widths of target and operands do not fit the kind, or a cell has another width than a load's
-                                        target or a store's data; the record */
-    RIFFLERLEEK_REFUSED_LOCKED = 10, /* the target row is locked, or a row of a store's span is; the record, inside the stretch or not */
-    RIFFLERLEEK_REFUSED_LONG = 11,   /* the text is longer than the text limit; place 0 */
-    RIFFLERLEEK_REFUSED_LINE = 12,   /* a line outside the grammar, a row line after a record line, or no final LF; the first such
-                                        line, from 1 (for a missing LF the last line). A header is line 1; on a later line, or of
-                                        another edition than 2 and 3, it is outside the grammar */
-    RIFFLERLEEK_REFUSED_ROOM = 13,   /* row lines or record words exceed the lent slices; place 0 */
-    RIFFLERLEEK_REFUSED_BUFFER = 14, /* the output buffer is shorter than the table's text; place 0 */
-    RIFFLERLEEK_REFUSED_BIT = 15,    /* the bit number is at or above the width; place 0 */
-    RIFFLERLEEK_REFUSED_KNOWN = 16,  /* the bit is known: it is the same for every choice of numbers that the vectors cover; place 0 */
-    RIFFLERLEEK_REFUSED_ENDS = 17,   /* low is greater than high, or an end is not below 2^width; place 0 */
-    RIFFLERLEEK_REFUSED_EMPTY = 18,  /* no number lies between the ends and is covered by the vector; place 0 */
-    RIFFLERLEEK_REFUSED_UNKNOWN = 19 /* the bit is unknown (X) after the run; place 0 */
+    RIFFLERLEEK_DONE = 0,             /* no refusal */
+    RIFFLERLEEK_REFUSED_ROWS = 1,     /* the width slice has no row, or more than the row limit; place 0 */
+    RIFFLERLEEK_REFUSED_LENGTHS = 2,  /* the four row slices differ in length; in compare_states: the five slices do; place 0 */
+    RIFFLERLEEK_REFUSED_RECORDS = 3,  /* the words are not whole records, of six each, or more than the record limit; in run also: first
+                                         is after last, or last is past the end; place 0 */
+    RIFFLERLEEK_REFUSED_WIDTH = 4,    /* a width is 0 or over the width limit, or a lock is over 1, where locks are lent; the row (of bare
+                                         vectors: 0) */
+    RIFFLERLEEK_REFUSED_VECTOR = 5,   /* mask and value share a set bit, or one has a bit at or above the width, of either state in
+                                         compare_states; the row (of bare vectors: 0) */
+    RIFFLERLEEK_REFUSED_KIND = 6,     /* no kind has this number; the record. In witnesses: the kind is not add, sub or mul; place 0 */
+    RIFFLERLEEK_REFUSED_ROW = 7,      /* a used row word is outside the table, a base row and a condition among them, or a span ends past
+                                         it; the record. Or the row that count or reset_bits is asked of is; that row */
+    RIFFLERLEEK_REFUSED_WORD = 8,     /* an unused word is not 0, a parameter is over the parameter limit, or a span has no cell; the
+                                         record */
+    RIFFLERLEEK_REFUSED_FIT = 9,      /* the widths of target and operands do not fit the kind, or a cell has another width than a load's
+                                         target or a store's data; the record */
+    RIFFLERLEEK_REFUSED_LOCKED = 10,  /* the target row is locked, or a row of a store's span is; the record, inside the stretch or not */
+    RIFFLERLEEK_REFUSED_LONG = 11,    /* the text is longer than the text limit; place 0 */
+    RIFFLERLEEK_REFUSED_LINE = 12,    /* a line outside the grammar, a row line after a record line, or no final LF; the first such
+                                         line, from 1 (for a missing LF the last line). A header is line 1; on a later line, or of
+                                         another edition than 2 and 3, it is outside the grammar */
+    RIFFLERLEEK_REFUSED_ROOM = 13,    /* row lines or record words exceed the lent slices; place 0 */
+    RIFFLERLEEK_REFUSED_BUFFER = 14,  /* the output buffer is shorter than the table's text; place 0 */
+    RIFFLERLEEK_REFUSED_BIT = 15,     /* the bit number is at or above the width; place 0 */
+    RIFFLERLEEK_REFUSED_KNOWN = 16,   /* the bit is known: it is the same for every choice of numbers that the vectors cover; place 0 */
+    RIFFLERLEEK_REFUSED_ENDS = 17,    /* low is greater than high, or an end is not below 2^width; place 0 */
+    RIFFLERLEEK_REFUSED_EMPTY = 18,   /* no number lies between the ends and is covered by the vector; place 0 */
+    RIFFLERLEEK_REFUSED_UNKNOWN = 19, /* the bit is unknown (X) after the run; place 0 */
+    RIFFLERLEEK_REFUSED_PAIRS = 20    /* the two slices of pairs differ in length, a row of a pair is outside the table, the two rows of
+                                         a pair differ in width, or a state row is named twice, is locked, is a record's target or is in
+                                         a store's span, whatever its address can be; place 0 */
+};
+
+/* How the first of two states lies to the second, as rifflerleek_compare_states answers it: the first of these that holds. A row lies
+ * inside another if that one covers every number that it covers, so also where the two are equal. */
+enum {
+    RIFFLERLEEK_ORDER_EQUAL = 0,  /* every row of the first is equal to the second's */
+    RIFFLERLEEK_ORDER_INSIDE = 1, /* every row of the first lies inside the second's */
+    RIFFLERLEEK_ORDER_AROUND = 2, /* every row of the second lies inside the first's */
+    RIFFLERLEEK_ORDER_NONE = 3    /* none of these */
 };
 
 /* Runs the records from first up to but not including last, after a check of the whole table. result is last, and mask and value
@@ -250,6 +273,29 @@ rifflerleek_four_numbers rifflerleek_range(uint32_t width, uint32_t mask, uint32
 rifflerleek_answer rifflerleek_reset_bits(const uint8_t *width, size_t widths, const uint8_t *lock, size_t locks, uint32_t *mask,
                                           size_t masks, uint32_t *value, size_t values, const uint32_t *words, size_t word_count,
                                           size_t row, uint32_t bit);
+
+/* All clocks, not one: runs clock after clock until the state rows settle. Pair i names a state row, states[i], and its next row,
+ * nexts[i]. A plain clock is a full plain run from the state's numbers and any numbers that the other start rows cover; then each next
+ * row's number goes to its state row, all together. A round starts the rows that are no state rows from their start, and the state rows
+ * as they then are; it runs all records, and then widens each state row, all together, to the best vector that covers it and its next
+ * row, as the run left both. Rounds end when no state row changes. result is the number of rounds, with the last, in which none did: 1
+ * or more, and at most the bits of the state rows plus one. mask and value hold the rows as the run of the last round left them. From
+ * every state that the state rows cover at the start, whatever covered numbers each clock brings, the state rows that are left cover
+ * every state that plain clocks reach, and each row that is left covers its number after every clock's run.
+ * A store's target word is no target. A next row may be locked, be that of several state rows, or be a state row, also its own. Without
+ * pairs there is one round, a run of all records. The time grows as the rounds times the records. Refusals 1 to 10, as rifflerleek_run
+ * of all records; then 20: no row is changed. */
+rifflerleek_answer rifflerleek_settle(const uint8_t *width, size_t widths, const uint8_t *lock, size_t locks, uint32_t *mask,
+                                      size_t masks, uint32_t *value, size_t values, const uint32_t *words, size_t word_count,
+                                      const uint32_t *states, size_t state_count, const uint32_t *nexts, size_t next_count);
+
+/* How two whole states lie to each other, row by row: two sets of rows over one width slice, such as what rifflerleek_settle leaves of
+ * one design and of another. result is RIFFLERLEEK_ORDER_EQUAL, _INSIDE, _AROUND or _NONE: the first state is equal to the second, inside
+ * it, around it, or none of these. Refusals 1, of the width slice; 2, of all five slices; then rows rising 4, 5 of the first state's row
+ * and 5 of the second's, at that row. Changes no slice. */
+rifflerleek_answer rifflerleek_compare_states(const uint8_t *width, size_t widths, const uint32_t *mask_1, size_t masks_1,
+                                              const uint32_t *value_1, size_t values_1, const uint32_t *mask_2, size_t masks_2,
+                                              const uint32_t *value_2, size_t values_2);
 
 #ifdef __cplusplus
 }

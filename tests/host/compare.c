@@ -6,8 +6,8 @@
 
 enum { GUARD = 64 };
 
-const char *const call_names[CALLS] = {"run",    "count", "size",        "write",     "read 1", "read 2",
-                                       "read 3", "field", "product_bit", "witnesses", "range",  "reset_bits"};
+const char *const call_names[CALLS] = {"run",   "count",       "size",      "write", "read 1",     "read 2", "read 3",
+                                       "field", "product_bit", "witnesses", "range", "reset_bits", "settle", "compare_states"};
 unsigned seen[CALLS][REFUSALS];
 size_t call_number;
 
@@ -17,7 +17,7 @@ struct lent {
     size_t bytes;
 };
 
-static struct lent lent[6];
+static struct lent lent[7];
 static size_t lent_count;
 
 static void *guarded(const void *data, size_t bytes)

@@ -6,7 +6,24 @@
 #include "draw.h"
 
 // The calls, read three times: of a text of each edition.
-enum { RUN, COUNT, SIZE, WRITE, READ_1, READ_2, READ_3, FIELD, PRODUCT_BIT, WITNESSES, RANGE, RESET_BITS, CALLS, REFUSALS = 20 };
+enum {
+    RUN,
+    COUNT,
+    SIZE,
+    WRITE,
+    READ_1,
+    READ_2,
+    READ_3,
+    FIELD,
+    PRODUCT_BIT,
+    WITNESSES,
+    RANGE,
+    RESET_BITS,
+    SETTLE,
+    COMPARE_STATES,
+    CALLS,
+    REFUSALS = 21
+};
 
 extern const char *const call_names[CALLS];
 

@@ -1,12 +1,15 @@
-// Random calls, valid and damaged, every range to width 5, and the resets of small tables: the library and the reference must give the same
-// answer (of witnesses the same refusal, else pairs that the reference finds right) and leave the same bytes, also around and beyond what
-// they write; and a text that was read must be written back as it should. Every answer of every call, and every kind of record, must occur,
-// each kind of two operands also with one row named twice, and what the reports of memories, texts, vectors, ranges and resets count; and
-// no call may take more stack than the header says, which tests/host/depth reads off the archive.
+// Random calls, valid and damaged, every range to width 5, the resets of small tables, and every two small states: the library and the
+// reference must give the same answer (of witnesses the same refusal, else pairs that the reference finds right) and leave the same bytes,
+// also around and beyond what they write; a text that was read must be written back as it should; and what settle leaves must cover plain
+// clocks. Every answer of every call, and every kind of record, must occur, each kind of two operands also with one row named twice, and
+// what the reports of memories, texts, vectors, ranges, resets, clocks and states count; and no call may take more stack than the header
+// says, which tests/host/depth reads off the archive.
 // usage: differential [SEED [CALLS]]
 #include "memory_counts.h"
 #include "range_calls.h"
 #include "reset_calls.h"
+#include "settle_calls.h"
+#include "state_calls.h"
 #include "text_calls.h"
 #include "vector_calls.h"
 #include <stdio.h>
@@ -14,8 +17,8 @@
 #include <time.h>
 
 // The answers that each call has, as bits: bit 0 for a result, bit n for refusal n.
-static const unsigned answers[CALLS] = {0x7ff,  0x0b7,  0x3ff,  0x43ff,  0x3805,  0x3805,
-                                        0x3805, 0x0001, 0x8031, 0x18071, 0x60031, 0x887ff};
+static const unsigned answers[CALLS] = {0x7ff,  0x0b7,  0x3ff,   0x43ff,  0x3805,  0x3805,   0x3805,
+                                        0x0001, 0x8031, 0x18071, 0x60031, 0x887ff, 0x1007ff, 0x0037};
 
 static unsigned steps[KINDS], steps_twice[KINDS];
 
@@ -107,11 +110,11 @@ static int report(void)
 {
     int missing = 0;
     unsigned all[REFUSALS] = {0};
-    printf("%-11s", "refusal:");
+    printf("%-14s", "refusal:");
     for (int n = 0; n < REFUSALS; n++)
         printf(n == 0 ? "   none" : "%6d", n);
     for (int name = 0; name <= CALLS; name++) {
-        printf("\n%-11s", name < CALLS ? call_names[name] : "all");
+        printf("\n%-14s", name < CALLS ? call_names[name] : "all");
         for (int n = 0; n < REFUSALS; n++) {
             unsigned count = name < CALLS ? seen[name][n] : all[n];
             all[n] += name < CALLS ? count : 0;
@@ -135,7 +138,9 @@ static int report(void)
     missing += report_texts();
     missing += report_vectors();
     missing += report_ranges();
-    return missing + report_resets();
+    missing += report_resets();
+    missing += report_settles();
+    return missing + report_states();
 }
 
 int main(int argc, char **argv)
@@ -143,9 +148,9 @@ int main(int argc, char **argv)
     static void (*const calls[])(void) = {call_run,         call_run,       call_run,       call_run,   call_count, call_size,
                                           call_write,       call_read,      call_read,      call_field, call_trip,  call_product_bit,
                                           call_product_bit, call_witnesses, call_witnesses, call_range, call_range, call_reset_bits,
-                                          call_reset_bits};
+                                          call_reset_bits,  call_settle,    call_settle,    call_compare_states};
     uint64_t from = argc > 1 ? strtoull(argv[1], NULL, 10) : 1;
-    size_t count = argc > 2 ? strtoull(argv[2], NULL, 10) : 152000;
+    size_t count = argc > 2 ? strtoull(argv[2], NULL, 10) : 176000;
     printf("seed %llu, %zu calls\n", (unsigned long long)from, count);
     fflush(stdout);
     seed(from);
@@ -153,6 +158,7 @@ int main(int argc, char **argv)
         calls[below(sizeof calls / sizeof *calls)]();
     sweep_ranges();
     sweep_resets();
+    sweep_states();
     int missing = report();
     size_t stack = library_stack();
     printf("library and reference agree on every answer and every byte, in %.1f s; never seen of what must be: %d\n",

@@ -1,12 +1,12 @@
-// Random vectors, tables and texts, valid and damaged.
+// Random vectors, tables, pairs of rows, states and texts, valid and damaged.
 #ifndef DRAW_H
 #define DRAW_H
 
 #include "reference.h"
 
-// Enough for every text of 40,000 bytes; 2^LIMIT choices of operands for a bit; the styles of draw_vector; the greatest width of narrow
-// rows, which 2^LIMIT choices settle.
-enum { MAX_ROWS = 4000, MAX_WORDS = 18000, MAX_TEXT = 60000, LIMIT = 14, STYLES = 10, NARROW = 6 };
+// Enough for every text of 40,000 bytes, and for more pairs than a table has rows; 2^LIMIT choices of operands for a bit; the styles of
+// draw_vector; the greatest width of narrow rows, which 2^LIMIT choices settle.
+enum { MAX_ROWS = 4000, MAX_WORDS = 18000, MAX_TEXT = 60000, MAX_PAIRS = 400, LIMIT = 14, STYLES = 10, NARROW = 6 };
 
 // A table with slices of any lengths, and a stretch.
 struct draft {
@@ -20,6 +20,21 @@ struct reset {
     struct draft d;
     size_t row;
     uint32_t bit;
+};
+
+// A table, and pairs of a state row and its next row. 2^limit choices of operands are tried for a bit of a run.
+struct clocked {
+    struct draft d;
+    uint32_t states[MAX_PAIRS], nexts[MAX_PAIRS];
+    size_t state_count, next_count;
+    unsigned limit;
+};
+
+// Two states over one width slice, with slices of any lengths.
+struct state_draft {
+    uint8_t width[MAX_PAIRS];
+    uint32_t mask[2][MAX_PAIRS], value[2][MAX_PAIRS];
+    size_t widths, masks[2], values[2];
 };
 
 // edition: 1 to 3, whose letters and numbers the lines have. fault: what is wrong with the header, by number, HEADER_FAULTS where nothing is, and the
@@ -68,6 +83,19 @@ void draw_known_table(struct draft *d, size_t rows, size_t records, int narrow);
 // One fault after the condition of refusal number 1 to 10. The table may still be accepted.
 void damage_table(struct draft *d, unsigned number);
 
+// One open row more, at the end: its number. One record more, of these words.
+uint32_t add_row(struct draft *d, unsigned width, struct ref_vector v);
+void add_record(struct draft *d, uint32_t kind, uint32_t t, uint32_t a, uint32_t b, uint32_t p, uint32_t c);
+
+// Whether a record is of that kind; whether one writes that row, with any address.
+int has_kind(const struct draft *d, uint32_t kind);
+int is_written(const struct draft *d, size_t row);
+
+// The refusal, 1 to 10, of a table and the stretch of all its records, or 0. The table without its records, and without what is refused of
+// its rows.
+uint32_t table_refusal(struct draft *d);
+void mend_table(struct draft *d, struct ref_answer refused);
+
 // A table whose bits are known, or most of them, and a bit of a row, most often of one that a record writes: two of five with up to three
 // faults, of the table, the row or the bit, which may be X. Seldom the table has 256 rows and 1,024 records.
 void draw_reset(struct reset *q);
@@ -82,6 +110,28 @@ void draw_small_reset(struct reset *q, size_t most);
 // The known bits of a row of the draft, as a word; one of them made X.
 uint32_t known_bits(const struct draft *d, size_t row);
 void set_unknown(struct draft *d, size_t row, uint32_t bit);
+
+// A table with pairs, three of five without a fault, else with up to two, of the pairs or the table. Its records are any; or its state rows
+// widen slowly, a counter and a chain of rows after it, or a ring of rows; or they are what a memory holds, and a pointer into it. Seldom
+// it has 256 rows.
+void draw_clocked(struct clocked *q);
+
+// Pairs of rows that nothing writes and rows of their widths, in any order: many of a table's open rows, or none.
+void draw_pairs(struct clocked *q);
+
+// One pair more, at any place of the two lists, which are of one length.
+void add_pair(struct clocked *q, uint32_t state, uint32_t next);
+
+// One fault, after a cause of ref_pair_causes, or more than 256 pairs where that is PAIR_CAUSES. The pairs may still be accepted.
+void damage_pairs(struct clocked *q, unsigned cause);
+
+// The two slices of the pairs; the five of two states.
+struct ref_pairs pairs_of(struct clocked *q);
+struct ref_states states_of(struct state_draft *s);
+
+// Two states, the second often made from the first: in one row or in many wider, narrower, both, or with other known bits. Two of five have up
+// to three faults.
+void draw_states(struct state_draft *s);
 
 // Bytes at the end of a text; a line at its end, with a fault where bad is 1.
 void put(struct text *x, const char *s, size_t length);

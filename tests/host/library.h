@@ -9,6 +9,8 @@
 rifflerleek_answer library_run(struct ref_table *t, size_t first, size_t last);
 rifflerleek_answer library_count(struct ref_table *t, size_t row);
 rifflerleek_answer library_reset_bits(struct ref_table *t, size_t row, uint32_t bit);
+rifflerleek_answer library_settle(struct ref_table *t, const struct ref_pairs *p);
+rifflerleek_answer library_compare_states(const struct ref_states *s);
 rifflerleek_answer library_size(struct ref_table *t);
 rifflerleek_answer library_write(struct ref_table *t, uint8_t *out, size_t length);
 rifflerleek_answer library_read(const uint8_t *text, size_t length, struct ref_table *t);

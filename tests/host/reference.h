@@ -23,6 +23,19 @@ struct ref_vector {
     uint32_t mask, value;
 };
 
+// Two lent slices of rows: state rows, and the next row of each.
+struct ref_pairs {
+    uint32_t *states, *nexts;
+    size_t state_count, next_count;
+};
+
+// Two states over one width slice, five slices in all, each with its own length.
+struct ref_states {
+    uint8_t *width;
+    uint32_t *mask[2], *value[2];
+    size_t widths, masks[2], values[2];
+};
+
 // Two bare vectors of one width, the number of a bit, and a kind, which witnesses alone is given.
 struct ref_operands {
     uint32_t kind, width, bit;
@@ -79,6 +92,9 @@ void ref_needed(const struct ref_op *o, unsigned k, uint64_t need[3]);
 // not settle it.
 int ref_values(const struct ref_op *o, const struct ref_vector v[3], unsigned k, unsigned limit);
 
+// The operation of a record that is no load or store.
+struct ref_op ref_operation(const struct ref_table *t, const uint32_t *record);
+
 // Whether mask and value share no bit and have none at or above the width, 1 to 32.
 int ref_well_formed(uint32_t width, struct ref_vector v);
 
@@ -91,6 +107,9 @@ struct ref_answer ref_refusal(uint32_t number, size_t place);
 
 // Refusals 6 to 10 of record r alone, 10 only where locked_too: a refusal number, or 0.
 uint32_t ref_record(const struct ref_table *t, size_t r, int locked_too);
+
+// Whether a record writes a row: its target, or any cell of a store.
+int ref_may_write(const uint32_t *record, size_t row);
 
 // Refusals 1 to 10: without a stretch (no check of first and last, and no 10) where run is 0.
 struct ref_answer ref_check(const struct ref_table *t, int run, size_t first, size_t last);
@@ -115,6 +134,37 @@ unsigned ref_conclusion(const struct ref_table *t, size_t row, uint32_t bit, uns
 
 // exact as of ref_run, for every run that is tried: where it becomes 0 the answer and the rows say nothing.
 struct ref_answer ref_reset_bits(struct ref_table *t, size_t row, uint32_t bit, unsigned limit, int *exact);
+
+// Why pairs on a table that run accepts are refused as 20, every cause there is: bit n of the result for cause n, in the order of the
+// enum. A state row is in a span whatever the store's address can be.
+enum {
+    FEWER_STATES,
+    FEWER_NEXTS,
+    STATE_OUTSIDE,
+    NEXT_OUTSIDE,
+    UNEQUAL_WIDTHS,
+    STATE_TWICE,
+    STATE_LOCKED,
+    STATE_TARGET,
+    STATE_IN_SPAN,
+    PAIR_CAUSES
+};
+unsigned ref_pair_causes(const struct ref_table *t, const struct ref_pairs *p);
+
+// The best vector that covers what v covers and what w covers. Worked out bit by bit, and number by number too where the width is small.
+struct ref_vector ref_join(uint32_t width, struct ref_vector v, struct ref_vector w);
+
+// Whether w covers every number that v covers. Worked out as ref_join is.
+int ref_inside(uint32_t width, struct ref_vector v, struct ref_vector w);
+
+// exact as of ref_run, for the run of every round: where it becomes 0 the answer and the rows say nothing.
+struct ref_answer ref_settle(struct ref_table *t, const struct ref_pairs *p, unsigned limit, int *exact);
+
+// The result is 0 for equal, 1 for inside, 2 for around, 3 for none of these.
+struct ref_answer ref_compare_states(const struct ref_states *s);
+
+// A full plain run of a table that run accepts, from and to one number for each row.
+void ref_plain_run(const struct ref_table *t, uint64_t *number);
 
 // The edition of a text, by its header: 2 or 3, and 1 without one. The header of edition 2 or 3, of HEADER bytes.
 enum { HEADER = 10 };

@@ -1,4 +1,4 @@
-// Each operation on plain numbers, and which of the operands' bits a bit of its result hangs on.
+// Each operation on plain numbers, full plain runs, and which of the operands' bits a bit of a result hangs on.
 #include "reference.h"
 
 uint64_t ref_bit(uint64_t n, unsigned k)
@@ -57,6 +57,25 @@ uint64_t ref_plain(const struct ref_op *o, uint64_t a, uint64_t b, uint64_t c)
     case 21: case 22: case 23: return wide_product(o, a, b);
     default: return c == 1 ? a : b;
     }
+}
+
+static void plain_step(const struct ref_table *t, const uint32_t *w, uint64_t *number)
+{
+    uint64_t a = number[w[2]], b = number[w[3]], c = number[w[5]];
+    if (w[0] == LOAD)
+        number[w[1]] = a < w[4] ? number[w[5] + a] : 0;
+    else if (w[0] == STORE && a < w[4])
+        number[w[5] + a] = b;
+    else if (w[0] != STORE) {
+        struct ref_op o = ref_operation(t, w);
+        number[w[1]] = ref_plain(&o, a, b, c);
+    }
+}
+
+void ref_plain_run(const struct ref_table *t, uint64_t *number)
+{
+    for (const uint32_t *w = t->words, *end = w + t->word_count; w < end; w += RECORD_WORDS)
+        plain_step(t, w, number);
 }
 
 // The operands' bits that can make a difference to bit k of the result; the others are not varied.

@@ -80,6 +80,11 @@ static int writes_locked(const struct ref_table *t, const uint32_t *w)
     return 0;
 }
 
+int ref_may_write(const uint32_t *w, size_t row)
+{
+    return w[0] == STORE ? w[5] <= row && row < (size_t)w[5] + w[4] : w[1] == row;
+}
+
 uint32_t ref_record(const struct ref_table *t, size_t r, int locked_too)
 {
     const uint32_t *w = t->words + RECORD_WORDS * r;

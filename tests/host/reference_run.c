@@ -12,22 +12,30 @@ static int independent(uint32_t kind)
     return kind == MUL || (kind >= UMULW && kind <= SUMULW);
 }
 
+// The places of the operands' words.
+static const size_t operands[3] = {2, 3, 5};
+
+struct ref_op ref_operation(const struct ref_table *t, const uint32_t *w)
+{
+    struct ref_op o = {w[0], w[4], t->width[w[1]], {0, 0, 0}, ref_named_twice(w) && !independent(w[0])};
+    for (int j = 0; j < 3; j++)
+        if (ref_uses(w[0], "abc"[j]))
+            o.w[j] = t->width[w[operands[j]]];
+    return o;
+}
+
 int ref_step(struct ref_table *t, size_t r, unsigned limit)
 {
-    static const size_t operands[3] = {2, 3, 5};
     const uint32_t *w = t->words + RECORD_WORDS * r;
     if (ref_uses(w[0], 'n')) {
         ref_memory_step(t, w, limit);
         return 1;
     }
-    struct ref_op o = {w[0], w[4], t->width[w[1]], {0, 0, 0}, ref_named_twice(w) && !independent(w[0])};
+    struct ref_op o = ref_operation(t, w);
     struct ref_vector v[3] = {{0, 0}, {0, 0}, {0, 0}}, result = {0, 0};
     for (int j = 0; j < 3; j++)
-        if (ref_uses(w[0], "abc"[j])) {
-            uint32_t row = w[operands[j]];
-            o.w[j] = t->width[row];
-            v[j] = (struct ref_vector){t->mask[row], t->value[row]};
-        }
+        if (ref_uses(w[0], "abc"[j]))
+            v[j] = (struct ref_vector){t->mask[w[operands[j]]], t->value[w[operands[j]]]};
     for (unsigned k = 0; k < o.wt; k++) {
         int seen = ref_values(&o, v, k, limit);
         if (seen == 0)

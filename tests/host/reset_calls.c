@@ -23,22 +23,6 @@ void judge_reset(struct reset *q, const struct draft *left, struct ref_answer ri
     compare(RESET_BITS, library_reset_bits(&t, q->row, q->bit), right);
 }
 
-static int has_kind(const struct draft *d, uint32_t kind)
-{
-    for (const uint32_t *w = d->words, *end = w + d->word_count; w < end; w += RECORD_WORDS)
-        if (w[0] == kind)
-            return 1;
-    return 0;
-}
-
-static int is_written(const struct draft *d, size_t row)
-{
-    for (const uint32_t *w = d->words, *end = w + d->word_count; w < end; w += RECORD_WORDS)
-        if (w[0] == STORE ? w[5] <= row && row < w[5] + w[4] : w[1] == row)
-            return 1;
-    return 0;
-}
-
 // Counts what became of the rows of a table that was not refused.
 static void count_rows(const struct reset *q, const struct draft *left)
 {
@@ -77,27 +61,6 @@ static int run_changes(const struct reset *q)
     return memcmp(work.mask, q->d.mask, 4 * work.masks) != 0 || memcmp(work.value, q->d.value, 4 * work.values) != 0;
 }
 
-// The table without its records, and without what is refused of its rows.
-static void mend_table(struct draft *d, struct ref_answer refused)
-{
-    size_t i = refused.place;
-    d->word_count = 0;
-    if (refused.refusal < 3)
-        d->widths = d->locks = d->masks = d->values = d->widths < 1 ? 1 : d->widths > 256 ? 256 : d->widths;
-    if (refused.refusal == 4 || refused.refusal == 5) {
-        d->width[i] = d->width[i] < 1 || d->width[i] > 32 ? 32 : d->width[i];
-        d->lock[i] &= 1;
-        d->mask[i] = d->value[i] = 0;
-    }
-}
-
-// The refusal, 1 to 10, of the table alone, or 0.
-static uint32_t table_refusal(struct reset *q)
-{
-    struct ref_table t = slices(&q->d);
-    return ref_check(&t, 1, 0, t.word_count / RECORD_WORDS).refusal;
-}
-
 // Mends what was refused. A row or a bit that is too great becomes what a careless cast or shift makes of it, where that is right.
 static void mend(struct reset *q, struct ref_answer refused, uint32_t of_table)
 {
@@ -114,9 +77,9 @@ static void count_two(struct reset *q, struct ref_answer refused)
 {
     static struct draft left;
     int exact;
-    uint32_t of_table = table_refusal(q);
+    uint32_t of_table = table_refusal(&q->d);
     mend(q, refused, of_table);
-    uint32_t next = table_refusal(q) != 0 ? RIFFLERLEEK_DONE : reference_of(q, &left, &exact).refusal;
+    uint32_t next = table_refusal(&q->d) != 0 ? RIFFLERLEEK_DONE : reference_of(q, &left, &exact).refusal;
     if (next == RIFFLERLEEK_DONE)
         return;
     int second = next == RIFFLERLEEK_REFUSED_ROW ? OF_ROW : next == RIFFLERLEEK_REFUSED_BIT ? OF_BIT : ENDS_X;

@@ -1,11 +1,13 @@
 -- Laws of the tests over all numbers below a bound. Assumes nothing.
 use mathlib.Core.Path.{_≡_, refl, sym, ap₂, subst}
-use mathlib.Core.Bool.{Bool, _||_}
+use mathlib.Core.Bool.{Bool, true, false, _||_}
 use mathlib.Core.Logic.{inl, inr}
-use Prim.Native.Nat.{ℕ, zero, suc, _<_}
+use Prim.Native.Nat.{ℕ, zero, suc, _+_, _<_}
 use native.Mathlib.Nat.{eq-or-lt-of-le, le-of-suc-le-suc, not-suc-le-zero}
+use native.Mathlib.Decide.{ℕ-discrete}
 use native.Mathlib.Omega.{arith}
-use lib.Dec.{T}
+use lib.Dec.{T, not-T}
+use lib.Ieee.Bits.{is-true, is-false}
 use Rattle.bits.specs.Below.{someBelow, allBelow}
 use Rattle.bits.proofs.Bools.{T-and, T-left, T-right, T-inl, T-inr, T-or}
 
@@ -45,3 +47,20 @@ allBelow-elim (suc n) p t k h =
       | inl e ↦ subst (λ (x : ℕ). T (p x)) (sym e) (T-left (p n) (allBelow n p) t)
       | inr l ↦ allBelow-elim n p (T-right (p n) (allBelow n p) t) k l
     ]
+
+-- ---- for a loop that counts up, and stops at the first number that decides
+
+pub below-next : (P : ℕ → Type 0) (i : ℕ) → ((j : ℕ) → j < i → P j) → P i → (j : ℕ) → j < i + 1 → P j
+below-next P i all p j h = elim (ℕ-discrete j i) [ yes e ↦ subst P (sym e) p | no d ↦ all j (omega arith) ]
+
+pub allBelow-true : (n : ℕ) (p : ℕ → Bool) → ((k : ℕ) → k < n → p k ≡ true) → allBelow n p ≡ true
+allBelow-true n p h = is-true (allBelow n p) (allBelow-intro n p (λ k l. subst T (sym (h k l)) tt))
+
+pub allBelow-false : (n : ℕ) (p : ℕ → Bool) (k : ℕ) → k < n → p k ≡ false → allBelow n p ≡ false
+allBelow-false n p k h e = is-false (allBelow n p) (not-T (allBelow n p) (λ t. subst T e (allBelow-elim n p t k h)))
+
+pub someBelow-true : (n : ℕ) (p : ℕ → Bool) (k : ℕ) → k < n → p k ≡ true → someBelow n p ≡ true
+someBelow-true n p k h e = is-true (someBelow n p) (someBelow-intro n p k h (subst T (sym e) tt))
+
+pub someBelow-false : (n : ℕ) (p : ℕ → Bool) → ((k : ℕ) → k < n → p k ≡ false) → someBelow n p ≡ false
+someBelow-false n p h = is-false (someBelow n p) (not-T (someBelow n p) (λ t. let f = someBelow-elim n p t in subst T (h (f .0) (f .1)) (f .2)))

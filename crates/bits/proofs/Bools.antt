@@ -59,3 +59,7 @@ when-false false x y t = refl
 pub by-cond : {A : Type 0} (P : A → Type 0) (b : Bool) (x y : A) → (T b → P x) → (T (not b) → P y) → P (cond b x y)
 by-cond P true x y f g = f tt
 by-cond P false x y f g = g tt
+
+pub T-cases : {A : Type 0} (b : Bool) → (T b → A) → (T (not b) → A) → A
+T-cases true f g = f tt
+T-cases false f g = g tt

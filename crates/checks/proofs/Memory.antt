@@ -17,7 +17,7 @@ use Rattle.operations.specs.Kinds.{isKind, kindOf}
 use Rattle.operations.specs.Memory.{span}
 use Rattle.operations.specs.declared.Record.{Record}
 use Rattle.operations.specs.Record.{wordsOf, rowsNamed, targetRows, widthAt, cellPart, partsOf}
-use Rattle.operations.specs.Faults.{partFits, namedFaults, widthsFit, targetLocked}
+use Rattle.operations.specs.Faults.{partFits, namedFaults, widthsFit}
 use Rattle.operations.proofs.Parts.{one-target}
 use Rattle.checks.specs.Check.{placed, verdict}
 use Rattle.checks.specs.Model.{judged}
@@ -91,17 +91,18 @@ module _ (widths : List ℕ) (r : Record) where
 
 -- ---- check 10
 
-module _ (locks : List ℕ) (r : Record) where
-  store-lock : targetLocked locks (words 25 r) ≡ someOf (λ i. eqb (getD locks i 0) 1) (span (r .c) (r .p))
+-- a test of the rows that a record writes: of the cells of a store, or of its row t
+module _ (p : ℕ → Bool) (r : Record) where
+  store-some : someOf p (targetRows (words 25 r)) ≡ someOf p (span (r .c) (r .p))
   unfolding targetRows kindOf
-  store-lock = refl
+  store-some = refl
 
-  pub store-locked : r .kind ≡ 25 → targetLocked locks (wordsOf r) ≡ someOf (λ i. eqb (getD locks i 0) 1) (span (r .c) (r .p))
-  store-locked e = ap (λ (k : ℕ). targetLocked locks (words k r)) e ∙ store-lock
+  pub store-targets : r .kind ≡ 25 → someOf p (targetRows (wordsOf r)) ≡ someOf p (span (r .c) (r .p))
+  store-targets e = ap (λ (k : ℕ). someOf p (targetRows (words k r))) e ∙ store-some
 
-  pub row-locked : T (isRow (kindOf (r .kind) .use-t)) → targetLocked locks (wordsOf r) ≡ eqb (getD locks (r .t) 0) 1
+  pub row-targets : T (isRow (kindOf (r .kind) .use-t)) → someOf p (targetRows (wordsOf r)) ≡ p (r .t)
   unfolding someOf
-  row-locked t = ap (someOf (λ i. eqb (getD locks i 0) 1)) (one-target (wordsOf r) t) ∙ or-false (eqb (getD locks (r .t) 0) 1)
+  row-targets t = ap (someOf p) (one-target (wordsOf r) t) ∙ or-false (p (r .t))
     where
       or-false : (b : Bool) → (b || false) ≡ b
       or-false true = refl

@@ -7,6 +7,7 @@
 --   rowShapeFaults t           1 and 2;      wordFaults t      3 without a stretch;   stretchFaults t first last   3 for a stretch
 --   rowFaults w l m v          4 and 5 of a row;  rowFaultsAt t i   of row i;   rowChecks t   of all rows
 --   widthFaults w, vectorFaults w m v   their parts: a width, and a vector of that width;   bitFaults w k   15 of a bit number
+--   twoVectorFaults w ma va mb vb       4 of a width, then 5 of two vectors of that width
 --   rowNamedFaults t i         7 of a row that a call names
 --   recordChecks t             6 to 9 of all records;          openChecks t  6 to 10 of all records
 --   runChecks, sizeChecks, countChecks   what run, size and count refuse, in order
@@ -103,6 +104,10 @@ widthFaults w = fault (widthZero w) 4 ∷ fault (widthOver w) 4 ∷ []
 
 abbrev pub vectorFaults : ℕ → ℕ → ℕ → List Fault
 vectorFaults w m v = fault (planeOver w m) 5 ∷ fault (planeOver w v) 5 ∷ fault (planesMeet m v) 5 ∷ []
+
+-- of two operands (02, request 6: "width as 4 and vectors as 5"), or of a row of two states (02, request 12: "the first state's row before the second's")
+abbrev pub twoVectorFaults : ℕ → ℕ → ℕ → ℕ → ℕ → List Fault
+twoVectorFaults w ma va mb vb = widthFaults w ++ (vectorFaults w ma va ++ vectorFaults w mb vb)
 
 abbrev pub bitFaults : ℕ → ℕ → List Fault
 bitFaults w k = fault (bitOutside w k) 15 ∷ []

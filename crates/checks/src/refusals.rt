@@ -37,3 +37,5 @@ pub const ENDS: u32 = 17;
 pub const EMPTY: u32 = 18;
 
 pub const UNKNOWN: u32 = 19;
+
+pub const PAIRS: u32 = 20;

@@ -1,13 +1,14 @@
-// Checks 4 and 5 of rows, and 15 of a bit number.
+// Checks 4 and 5 of rows and of two vectors, and 15 of a bit number.
 ghost use mathlib.Core.Path.{_≡_};
 ghost use mathlib.Core.List.{[]};
 ghost use Prim.Native.Nat.{_≤_};
 ghost use Rattle.checks.specs.Check.{placed};
-ghost use Rattle.checks.specs.Checks.{widthFaults, vectorFaults, bitFaults, rowFaults, rowChecks};
+ghost use Rattle.checks.specs.Checks.{widthFaults, vectorFaults, twoVectorFaults, bitFaults, rowFaults, rowChecks};
 ghost use Rattle.bits.specs.Limits.{widthLimit};
 ghost use Rattle.checks.specs.Model.{lent, verdictModel, judged};
 ghost use Rattle.checks.specs.Encoding.{RowSlices};
 use crate::Verdict;
+use crate::first_refusal;
 use crate::limits::WIDTH_LIMIT;
 use crate::refusals;
 use crate::refuse;
@@ -42,6 +43,22 @@ pub fn check_vector(w: u32, m: u32, v: u32, i: usize) -> Verdict
         return refuse(refusals::VECTOR, i);
     }
     Verdict::Passed
+}
+
+// Checks 4 and 5 of two vectors of one width; i is their place.
+pub fn check_two_vectors(w: u32, ma: u32, va: u32, mb: u32, vb: u32, i: usize) -> Verdict
+    ensures { λ r. ⌜ verdictModel r ≡ judged (placed i (twoVectorFaults w ma va mb vb)) ⌝ }
+{
+    let found = check_width(w, i);
+    match found {
+        Verdict::Refused(_) => {
+            return found;
+        }
+        Verdict::Passed => {}
+    }
+    let first = check_vector(w, ma, va, i);
+    let second = check_vector(w, mb, vb, i);
+    first_refusal(first, second)
 }
 
 // Check 15 of a bit number at width w; i is its place.

@@ -1,5 +1,4 @@
 -- The laws and proofs of `conclusions`.
-pub mod Copies
 pub mod Forgets
 pub mod Visits
 pub mod OpenBits

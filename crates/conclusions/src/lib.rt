@@ -7,7 +7,6 @@ ghost use lib.Dec.{eqb};
 ghost use lib.ListN.{length};
 ghost use Rattle.bits.specs.Bit.{bit};
 ghost use Rattle.steps.specs.States.{held};
-ghost use Rattle.conclusions.specs.Encoding.{Copyable};
 ghost use Rattle.conclusions.specs.Pass as Pass;
 ghost use Rattle.conclusions.specs.Pass.{position};
 
@@ -24,21 +23,6 @@ pub fn bit_at(x: u32, k: u32) -> u32
     ensures { λ r. ⌜ r ≡ bit x k ⌝ }
 {
     (x >> k) & 1
-}
-
-// Copies well-formed rows over others of their number. The bits that mask and value share are taken from both, and such a row has none: a plain copy would be
-// compiled to a call of a function that is not the library's.
-pub fn copy_rows(mask: &[u32], value: &[u32], tmask: &mut [u32], tvalue: &mut [u32])
-    requires { ⌜ Copyable (held (now mask) (now value)) (now tmask) (now tvalue) ⌝ }
-    ensures { λ _. ⌜ held (now (tmask .exit)) (now (tvalue .exit)) ≡ held (now (mask .entry)) (now (value .entry)) ⌝ }
-{
-    let mut i: usize = 0;
-    while i < mask.len() {
-        let shared = mask[i] & value[i];
-        tmask[i] = mask[i] ^ shared;
-        tvalue[i] = value[i] ^ shared;
-        i += 1;
-    }
 }
 
 // Bit k of row i becomes X: its mask bit is 1, its value bit 0.

@@ -12,6 +12,10 @@ use operations::RECORD_WORDS;
 use operations::name_byte;
 use operations::name_len;
 use rifflerleek::DONE;
+use rifflerleek::ORDER_AROUND;
+use rifflerleek::ORDER_EQUAL;
+use rifflerleek::ORDER_INSIDE;
+use rifflerleek::ORDER_NONE;
 use rifflerleek::UNKNOWN_BIT;
 use texts::limits::HEADER_BYTES;
 use texts::limits::RECORD_BYTES;
@@ -77,6 +81,7 @@ fn print_refusals() {
     print_refusal(b"ends", refusals::ENDS);
     print_refusal(b"empty", refusals::EMPTY);
     print_refusal(b"unknown", refusals::UNKNOWN);
+    print_refusal(b"pairs", refusals::PAIRS);
 }
 
 // The most bytes of a row line, as the definitions have it.
@@ -107,10 +112,18 @@ fn print_limits() {
     print_line(b"record_bytes", record_bytes());
 }
 
+fn print_orders() {
+    print_line(b"order_equal", ORDER_EQUAL);
+    print_line(b"order_inside", ORDER_INSIDE);
+    print_line(b"order_around", ORDER_AROUND);
+    print_line(b"order_none", ORDER_NONE);
+}
+
 fn main() {
     print_kinds();
     print_line(b"done", DONE as usize);
     print_line(b"unknown_bit", UNKNOWN_BIT);
+    print_orders();
     print_refusals();
     print_limits();
 }

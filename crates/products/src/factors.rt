@@ -81,7 +81,7 @@ fn greatest_bit(a: u32, b: u32, i: u32, k: u32) -> u32
 }
 
 // The bit that the column sums at the extremes settle.
-pub fn settle(x: Extremes, k: u32) -> OutputBit
+pub fn settled_bit(x: Extremes, k: u32) -> OutputBit
     requires { ⌜ k < widthLimit ⌝ }
     ensures { λ r. ⌜ r ≡ settledBit k x ⌝ }
 {

@@ -27,7 +27,7 @@ use columns::product;
 use columns::witnesses::unknown_columns;
 use factors::extreme_factors;
 use factors::partners;
-use factors::settle;
+use factors::settled_bit;
 use factors::with_pair;
 use vectors::OutputBit;
 use vectors::Vector;
@@ -46,7 +46,7 @@ fn column_bit(ma: u32, va: u32, mb: u32, vb: u32, reverses: FourWords, k: u32) -
 {
     let pairs = ma & partners(reverses.c, k);
     if pairs == 0 {
-        return settle(extreme_factors(ma, va, mb, vb, reverses, k), k);
+        return settled_bit(extreme_factors(ma, va, mb, vb, reverses, k), k);
     }
     let i = u32::trailing_zeros(pairs);
     let lone = 1u32 << i;
@@ -55,7 +55,7 @@ fn column_bit(ma: u32, va: u32, mb: u32, vb: u32, reverses: FourWords, k: u32) -
     }
     let x = extreme_factors(ma, va, mb, vb, reverses, k);
     let y = with_pair(x, i, k);
-    settle(y, k)
+    settled_bit(y, k)
 }
 
 fn mask_bit(b: OutputBit) -> u32

@@ -17,7 +17,8 @@ use Rattle.steps.specs.States.{StateFits}
 use Rattle.tables.proofs.FullRuns.{accepted-from, full-ready}
 use Rattle.conclusions.specs.declared.Conclusion.{Conclusion}
 use Rattle.conclusions.specs.Pass.{position, bitsIn, visit, walk, passRows}
-use Rattle.conclusions.specs.Encoding.{InTable, TrialRows}
+use Rattle.steps.specs.Encoding.{OwnRows}
+use Rattle.conclusions.specs.Encoding.{InTable}
 use Rattle.reset_search.specs.Encoding.{TrialReady, PassReady}
 use Rattle.conclusions.proofs.OpenBits.{row-all}
 use Rattle.conclusions.proofs.Visits.{visit-fits, visit-same, walk-fits, walk-append, walk-same}
@@ -70,12 +71,12 @@ pub record AtRow (t : Table) (c : Conclusion) (i : ℕ) (s : State) : Type 0 whe
   pub rest-is : passRows t c ≡ rowsFrom t c i s
 
 -- what a visit asks of the rows as they then are
-pub trial-ready : (t : Table) (c : Conclusion) (tm tv : List ℕ) → PassReady t c tm tv → (s : State) → StateFits (t .widths) s → (um uv : List ℕ) → TrialRows (t .widths) um uv
+pub trial-ready : (t : Table) (c : Conclusion) (tm tv : List ℕ) → PassReady t c tm tv → (s : State) → StateFits (t .widths) s → (um uv : List ℕ) → OwnRows (t .widths) um uv
     → TrialReady (t .widths) s (t .words) c um uv
 trial-ready t c tm tv R s S um uv U = record { steps = full-ready t (R .accepted) s S; named = R .named; trial-rows = U }
 
 -- and what the visits of a row ask
-pub pass-ready : (t : Table) (c : Conclusion) (tm tv : List ℕ) → PassReady t c tm tv → (s : State) → StateFits (t .widths) s → (um uv : List ℕ) → TrialRows (t .widths) um uv
+pub pass-ready : (t : Table) (c : Conclusion) (tm tv : List ℕ) → PassReady t c tm tv → (s : State) → StateFits (t .widths) s → (um uv : List ℕ) → OwnRows (t .widths) um uv
     → PassReady (withRows t s) c um uv
 pass-ready t c tm tv R s S um uv U = record { accepted = accepted-from t (R .accepted) s S; named = R .named; trial-rows = U }
 

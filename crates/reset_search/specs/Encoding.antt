@@ -7,14 +7,15 @@ use Rattle.checks.specs.Table.{State, Table, recordCount}
 use Rattle.checks.specs.Accepted.{Accepted}
 use Rattle.tables.specs.Encoding.{StretchReady}
 use Rattle.conclusions.specs.declared.Conclusion.{Conclusion}
-use Rattle.conclusions.specs.Encoding.{InTable, TrialRows}
+use Rattle.steps.specs.Encoding.{OwnRows}
+use Rattle.conclusions.specs.Encoding.{InTable}
 
 pub record TrialReady (widths : List ℕ) (s : State) (words : List ℕ) (c : Conclusion) (tm tv : List ℕ) : Type 0 where
   pub steps : StretchReady widths s words
   pub named : InTable widths (c .row) (c .at)
-  pub trial-rows : TrialRows widths tm tv
+  pub trial-rows : OwnRows widths tm tv
 
 pub record PassReady (t : Table) (c : Conclusion) (tm tv : List ℕ) : Type 0 where
   pub accepted : Accepted t 0 (recordCount t)
   pub named : InTable (t .widths) (c .row) (c .at)
-  pub trial-rows : TrialRows (t .widths) tm tv
+  pub trial-rows : OwnRows (t .widths) tm tv

@@ -14,9 +14,9 @@ ghost use Rattle.reset_search.specs.Encoding.{TrialReady, PassReady};
 use bits::wide;
 use conclusions::Conclusion;
 use conclusions::bit_at;
-use conclusions::copy_rows;
 use conclusions::forget;
 use conclusions::holds;
+use steps::copy_rows;
 use tables::stepping::step_all;
 
 // A trial: whether the conclusion keeps its value where bit k of row i is X. A full run from the rows as they are, on rows of its own.

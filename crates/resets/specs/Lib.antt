@@ -1,3 +1,2 @@
 -- The definitions of `resets`.
 pub mod Model
-pub mod Encoding

@@ -4,9 +4,9 @@ ghost use Prim.Native.Nat.{ℕ};
 ghost use Rattle.checks.specs.Check.{done};
 ghost use Rattle.checks.specs.Model.{lent, verdictModel, judged};
 ghost use Rattle.steps.specs.States.{held};
-ghost use Rattle.conclusions.specs.Encoding.{TrialRows, Named};
+ghost use Rattle.steps.specs.Encoding.{OwnRows, RoomFor};
+ghost use Rattle.conclusions.specs.Encoding.{Named};
 ghost use Rattle.conclusions.specs.Reset.{conclusion, namingChecks, resetOf, RestsOn};
-ghost use Rattle.resets.specs.Encoding.{RoomFor};
 ghost use Rattle.resets.specs.Model.{resetModel, resetRan};
 use bits::wide;
 use checks::Refusal;
@@ -16,9 +16,9 @@ use checks::refusals;
 use checks::rows::check_bit;
 use conclusions::Conclusion;
 use conclusions::bit_at;
-use conclusions::copy_rows;
 use operations::RECORD_WORDS;
 use reset_search::pass;
+use steps::copy_rows;
 use table_checks::check_row_named;
 use table_checks::check_run;
 use tables::stepping::step_all;
@@ -73,7 +73,7 @@ fn reset_with(
     tmask: &mut [u32],
     tvalue: &mut [u32],
 ) -> ResetAnswer
-    requires { ⌜ Named (lent (now width) (now lock) (now mask) (now value) (now words)) row bit × TrialRows (now width) (now tmask) (now tvalue) ⌝ }
+    requires { ⌜ Named (lent (now width) (now lock) (now mask) (now value) (now words)) row bit × OwnRows (now width) (now tmask) (now tvalue) ⌝ }
     ensures { λ r.
         let table = lent (now (width .entry)) (now (lock .entry)) (now (mask .entry)) (now (value .entry)) (now (words .entry)) in
         ⌜ resetRan r (now (mask .exit)) (now (value .exit)) ≡ resetOf table row bit ⌝ }

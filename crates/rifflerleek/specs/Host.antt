@@ -1,13 +1,14 @@
 -- What a host program is handed: the paper's answer as a struct, of two numbers or of four, and what the call leaves (01, "Calls": "the result, or a refusal holding its number and its place").
 --   hostResult a b      a result of two numbers: refusal 0;   hostRefusal n p   a refusal: its number and its place
---   numberAnswer      of run, size, write and reset_bits, whose result is one number;   countAnswer   of count;   countsAnswer   of read
+--   numberAnswer      of run, size, write, reset_bits and settle, whose result is one number;   countAnswer   of count;   countsAnswer   of read
 --   endsAnswer        of field: where the part begins and ends
 --   bitNumber b       an output bit as a number: 2 for X;   bitAnswer   of product_bit
+--   orderNumber o     an order as a number;   orderAnswer   of compare_states
 --   fourRefusal n p   a refusal of a call that gives four numbers: they are 0;   FourAnswers a r   r refuses as a does, or is done
 --   pairOf x y        two of them as operands
 --   rangeAnswer       of range: a vector's mask and value, the smallest and the largest number;   rangeHeld r   these of a host's answer
 --   Outcome L         an answer, and what the call leaves in the slices;   outcome r left   these of a host
---   hostRan, hostWritten, hostRead   these of what run and reset_bits, write, and read answer and leave
+--   hostRan, hostWritten, hostRead   these of what run, reset_bits and settle, write, and read answer and leave
 use mathlib.Core.Path.{_≡_}
 use mathlib.Core.List.{List}
 use Prim.Native.Nat.{ℕ}
@@ -20,6 +21,8 @@ use Rattle.checks.specs.Table.{State, Table}
 use Rattle.tables.specs.Run.{Ran, Count}
 use Rattle.grammar.specs.Cut.{Ends}
 use Rattle.texts.specs.Calls.{Written, Counts, ReadBack}
+use Rattle.orders.specs.declared.Order.{Order}
+use Rattle.orders.specs.declared.Order.the-variants.{Equal, Inside, Around, NoneOfThese}
 use Rattle.rifflerleek.specs.declared.Answer.{Answer as HostAnswer}
 use Rattle.rifflerleek.specs.declared.vector_exports.FourNumbers.{FourNumbers}
 
@@ -56,6 +59,17 @@ bitNumber Unknown = 2
 abbrev pub bitAnswer : Answer OutputBit → HostAnswer
 bitAnswer (done b) = hostResult (bitNumber b) 0
 bitAnswer (refused number place) = hostRefusal number place
+
+-- "the first equal to, inside or around the second, or none of these" (02, request 12); the numbers are this library's own
+abbrev pub orderNumber : Order → ℕ
+orderNumber Equal = 0
+orderNumber Inside = 1
+orderNumber Around = 2
+orderNumber NoneOfThese = 3
+
+abbrev pub orderAnswer : Answer Order → HostAnswer
+orderAnswer (done o) = hostResult (orderNumber o) 0
+orderAnswer (refused number place) = hostRefusal number place
 
 -- ---- four numbers
 

@@ -20,6 +20,7 @@ use texts::BytesAnswer;
 use texts::ReadAnswer;
 
 mod reset_exports; // reset_exports.rt: which reset bits a conclusion rests on
+mod settle_exports; // settle_exports.rt: clock after clock until it settles, and the ordering of two states
 mod vector_exports; // vector_exports.rt: the calls on bare vectors
 
 // What a call answers that gives at most two numbers: refusal 0 and the results, or the refusal's number and its place.
@@ -36,6 +37,15 @@ pub const DONE: u32 = 0;
 
 // The number of an output bit that is unknown (X).
 pub const UNKNOWN_BIT: usize = 2;
+
+// How a state stands to another.
+pub const ORDER_EQUAL: usize = 0;
+
+pub const ORDER_INSIDE: usize = 1;
+
+pub const ORDER_AROUND: usize = 2;
+
+pub const ORDER_NONE: usize = 3;
 
 // A result of two numbers.
 fn done(result: usize, second: u64) -> Answer

@@ -1,11 +1,11 @@
 -- Rows put, and numbers set, one after another: what they leave. Assumes nothing.
 --   FitPut widths i r   r is a well-formed vector of the width of row i
-use mathlib.Core.Path.{_≡_, refl, sym, _∙_, subst}
+use mathlib.Core.Path.{_≡_, refl, sym, ap, _∙_, subst}
 use mathlib.Core.Logic.{_≢_}
 use mathlib.Core.List.{List, [], _∷_, map}
 use Prim.Native.Nat.{ℕ, _<_}
 use lib.ListN.{length, getD, set, length-set}
-use lib.Seq.{getD-set-same, getD-set-other}
+use lib.Seq.{set-getD, getD-set-same, getD-set-other}
 use Rattle.vectors.specs.Lists.{All, Distinct}
 use Rattle.vectors.specs.Row.{Row, WellFormed, Covers, Inside}
 use Rattle.operations.specs.Record.{widthAt}
@@ -50,6 +50,18 @@ module _ {A : Type 0} (widths : List ℕ) (t : A → ℕ) (g : A → Row) where
       inside-all g′ l (F .1) (F′ .1) (c .1) (put s (t a) (g a)) (put s′ (t a) (g′ a))
       (fits-put widths s S (t a) (g a) (F .0 .width-is) (F .0 .formed)) (fits-put widths s′ S′ (t a) (g′ a) (F′ .0 .width-is) (F′ .0 .formed))
       (inside-put widths s s′ S S′ I (t a) (g a) (g′ a) (F .0 .width-is) (F′ .0 .width-is) (c .0))
+
+  -- rows put that are there already
+  pub same-all : (l : List A) (s : State) → All (λ a. (g a .mask ≡ getD (s .masks) (t a) 0) × (g a .value ≡ getD (s .values) (t a) 0)) l → putAll t g l s ≡ s
+  same-all [] s e = refl
+  same-all (a ∷ l) s e = ap (putAll t g l) put-same ∙ same-all l s (e .1)
+    where
+      put-same : put s (t a) (g a) ≡ s
+      put-same =
+          λ ι. record {
+            masks = (ap (set (s .masks) (t a)) (e .0 .0) ∙ set-getD (s .masks) (t a) 0) ι;
+            values = (ap (set (s .values) (t a)) (e .0 .1) ∙ set-getD (s .values) (t a) 0) ι;
+          }
 
 -- ---- numbers set one after another
 

@@ -10,14 +10,14 @@ use Rattle.columns.specs.Formed.{Formed}
 use Rattle.witness_search.specs.Witness.{addSubMul}
 use Rattle.witness_search.specs.Search.{Asked}
 use Rattle.checks.specs.Check.{placed, Passed}
-use Rattle.checks.specs.Checks.{widthFaults, vectorFaults, bitFaults}
+use Rattle.checks.specs.Checks.{widthFaults, vectorFaults, twoVectorFaults, bitFaults}
 use Rattle.checks.proofs.Verdicts.{passed-left, passed-right}
 use Rattle.checks.proofs.RowChecks.{width-of-passed, vector-of-passed}
-use Rattle.vector_calls.specs.Calls.{operandFaults, productBitChecks}
+use Rattle.vector_calls.specs.Calls.{productBitChecks}
 use Rattle.vector_calls.specs.Witnesses.{kindFaults, operationFaults}
 
 module _ (w ma va mb vb : ℕ) where
-  operands-of-passed : Passed (placed 0 (operandFaults w ma va mb vb)) → Formed w ma va mb vb
+  operands-of-passed : Passed (placed 0 (twoVectorFaults w ma va mb vb)) → Formed w ma va mb vb
   operands-of-passed P =
       let first = placed 0 (vectorFaults w ma va) in
       let second = placed 0 (vectorFaults w mb vb) in
@@ -34,13 +34,13 @@ module _ (w ma va mb vb : ℕ) where
   pub granted : (k : ℕ) → Passed (productBitChecks w ma va mb vb k) → Formed w ma va mb vb × (k < w)
   unfolding productBitChecks
   granted k P =
-      let operands = placed 0 (operandFaults w ma va mb vb) in
+      let operands = placed 0 (twoVectorFaults w ma va mb vb) in
       let number = placed 0 (bitFaults w k) in
       (operands-of-passed (passed-left operands number P), bit-of-passed k (passed-right operands number P))
 
   pub asked : (kind k : ℕ) → Passed (placed 0 (operationFaults kind w ma va mb vb k)) → Asked kind w k (record { ma = ma; va = va; mb = mb; vb = vb })
   asked kind k P =
-      let operands = placed 0 (operandFaults w ma va mb vb) in
+      let operands = placed 0 (twoVectorFaults w ma va mb vb) in
       let operation = placed 0 (kindFaults kind) in
       let number = placed 0 (bitFaults w k) in
       let R = passed-right operands (operation ++ number) P in

@@ -13,8 +13,8 @@ use Rattle.operations.specs.Result.{resultOf}
 use Rattle.witness_search.specs.declared.Pair.{Pair}
 use Rattle.witness_search.specs.Witness.{addSubMul, plainOf, Makes}
 use Rattle.checks.specs.Check.{Check, placed}
-use Rattle.checks.specs.Checks.{bitFaults}
-use Rattle.vector_calls.specs.Calls.{bothRows, operandFaults}
+use Rattle.checks.specs.Checks.{twoVectorFaults, bitFaults}
+use Rattle.vector_calls.specs.Calls.{bothRows}
 
 -- "6 (any other kind)"
 abbrev pub otherKind : ℕ → Bool
@@ -32,7 +32,7 @@ knownFaults kind w ma va mb vb k = fault (bitKnown kind w ma va mb vb k) 16 ∷ 
 
 -- "Checks run as 4, 5, 6 (any other kind), 15."
 abbrev pub operationFaults : ℕ → ℕ → ℕ → ℕ → ℕ → ℕ → ℕ → List Fault
-operationFaults kind w ma va mb vb k = operandFaults w ma va mb vb ++ (kindFaults kind ++ bitFaults w k)
+operationFaults kind w ma va mb vb k = twoVectorFaults w ma va mb vb ++ (kindFaults kind ++ bitFaults w k)
 
 -- "It refuses a bit that is known as 16, after 15." "A call on bare vectors puts place 0 on every refusal." (02, request 6)
 unfoldable pub witnessChecks : ℕ → ℕ → ℕ → ℕ → ℕ → ℕ → ℕ → List Check

@@ -4,7 +4,7 @@ ghost use Prim.Native.Nat.{_≤_};
 ghost use Rattle.bits.specs.Limits.{widthLimit};
 ghost use Rattle.checks.specs.Check.{placed};
 ghost use Rattle.checks.specs.Model.{verdictModel, judged};
-ghost use Rattle.vector_calls.specs.Calls.{operandFaults, productBitChecks};
+ghost use Rattle.vector_calls.specs.Calls.{productBitChecks};
 ghost use Rattle.vector_calls.specs.Witnesses.{kindFaults, operationFaults};
 ghost use Rattle.vector_calls.specs.Ranges.{endFaults, inputFaults};
 use checks::Verdict;
@@ -12,33 +12,18 @@ use checks::first_refusal;
 use checks::refusals;
 use checks::refuse;
 use checks::rows::check_bit;
+use checks::rows::check_two_vectors;
 use checks::rows::check_vector;
 use checks::rows::check_width;
 use witness_search::is_add_sub_mul;
-
-// Checks 4 and 5 of two vectors of one width.
-fn check_operands(width: u32, ma: u32, va: u32, mb: u32, vb: u32) -> Verdict
-    ensures { λ r. ⌜ verdictModel r ≡ judged (placed 0 (operandFaults width ma va mb vb)) ⌝ }
-{
-    let found = check_width(width, 0);
-    match found {
-        Verdict::Refused(_) => {
-            return found;
-        }
-        Verdict::Passed => {}
-    }
-    let first = check_vector(width, ma, va, 0);
-    let second = check_vector(width, mb, vb, 0);
-    first_refusal(first, second)
-}
 
 // What product_bit refuses.
 pub fn check_product_bit(width: u32, ma: u32, va: u32, mb: u32, vb: u32, bit: u32) -> Verdict
     ensures { λ r. ⌜ verdictModel r ≡ judged (productBitChecks width ma va mb vb bit) ⌝ }
 {
-    let operands = check_operands(width, ma, va, mb, vb);
+    let vectors = check_two_vectors(width, ma, va, mb, vb, 0);
     let number = check_bit(width, bit, 0);
-    first_refusal(operands, number)
+    first_refusal(vectors, number)
 }
 
 // Check 6: a kind other than add, sub and mul.
@@ -63,7 +48,7 @@ pub fn check_operation(
 ) -> Verdict
     ensures { λ r. ⌜ verdictModel r ≡ judged (placed 0 (operationFaults kind width ma va mb vb bit)) ⌝ }
 {
-    let operands = check_operands(width, ma, va, mb, vb);
+    let operands = check_two_vectors(width, ma, va, mb, vb, 0);
     let operation = check_kind(kind);
     let bit_number = check_bit(width, bit, 0);
     first_refusal(operands, first_refusal(operation, bit_number))

@@ -7,6 +7,9 @@ pub mod Operands
 pub mod Hulls
 pub mod Insides
 pub mod Joins
+pub mod Widened
+pub mod Sums
+pub mod Distincts
 pub mod Bests
 pub mod BestLaws
 pub mod Apart

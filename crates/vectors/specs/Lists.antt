@@ -3,10 +3,11 @@
 --   Pointwise R l m   l and m have one length, and R holds of their elements place by place
 --   Missing i l  no element of l is i;   Distinct l   no two elements of l are one
 --   allOf p l    every element of l passes the test p;   someOf p l   some element passes it
+--   sumOf f l    the sum of f over the elements of l
 use mathlib.Core.Bool.{Bool, true, false, _&&_, _||_}
 use mathlib.Core.Logic.{_≢_}
 use mathlib.Core.List.{List, [], _∷_}
-use Prim.Native.Nat.{ℕ}
+use Prim.Native.Nat.{ℕ, _+_}
 
 abbrev pub All : {A : Type 0} → (A → Type 0) → List A → Type 0
 All P [] = Unit {0}
@@ -32,3 +33,7 @@ allOf p (a ∷ l) = p a && allOf p l
 unfoldable pub someOf : {A : Type 0} → (A → Bool) → List A → Bool
 someOf p [] = false
 someOf p (a ∷ l) = p a || someOf p l
+
+abbrev pub sumOf : {A : Type 0} → (A → ℕ) → List A → ℕ
+sumOf f [] = 0
+sumOf f (a ∷ l) = f a + sumOf f l

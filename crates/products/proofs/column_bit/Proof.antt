@@ -32,7 +32,7 @@ returns : tie.Need-returns
 returns c w h F G =
     let a = c .before .before .before .before .args in
     no-pair-bit w (a .ma) (a .va) (a .mb) (a .vb) (a .k) h F G _ (pairs-are (c .before .before .before)) (c .before .before .if1 .taken) _ _
-    (c .before .extreme-factors .ensures) (c .settle .ensures)
+    (c .before .extreme-factors .ensures) (c .settled-bit .ensures)
 
 shl-lone : tie.Need-shl-lone
 shl-lone c = lowest 32 (pairs (c .before)) (c .if1 .left) (pairs-below (c .before)) .0
@@ -57,7 +57,7 @@ returns-3 c w h F G =
     let p = c .before .before .before .before .before in
     let a = p .before .args in
     lone-pair-bit w (a .ma) (a .va) (a .mb) (a .vb) (a .k) h F G _ (pairs-are p) _ (is-lone p (c .before .before .before .before .if1 .left) (c .before .before .before .if2 .left)) _ _ _
-    (c .before .before .extreme-factors2 .ensures) (c .before .with-pair .ensures) (c .settle2 .ensures)
+    (c .before .before .extreme-factors2 .ensures) (c .before .with-pair .ensures) (c .settled-bit2 .ensures)
 
 pub column-bit-spec : {M : Type 1} → statement M
 column-bit-spec =

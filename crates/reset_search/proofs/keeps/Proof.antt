@@ -1,7 +1,7 @@
 -- `reset_search::keeps` meets its contract: a trial, step by step. Assumes nothing.
 use mathlib.Core.Path.{_∙_}
 use Rattle.checks.specs.Model.{lent}
-use Rattle.conclusions.proofs.Copies.{copyable}
+use Rattle.steps.proofs.Copies.{copyable}
 use Rattle.reset_search.proofs.Trials.{bit-of-word, row-room, trial-steps, trial-test}
 use borrow.Author.Needs.{needs}
 use Rattle.reset_search.proofs.keeps.Statement.{statement}

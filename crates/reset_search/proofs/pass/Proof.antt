@@ -7,14 +7,14 @@ use Rattle.checks.specs.Table.{Table}
 use Rattle.checks.specs.Model.{lent}
 use Rattle.steps.specs.States.{held}
 use Rattle.tables.proofs.Demand3.{start-fits}
-use Rattle.conclusions.specs.Encoding.{TrialRows}
+use Rattle.steps.specs.Encoding.{OwnRows}
 use Rattle.reset_search.proofs.Passes.{pass-ready, AtRow, row-start, row-next, row-end}
 use Rattle.reset_search.proofs.pass.Statement.{statement}
 use Rattle.reset_search.proofs.pass.Tie as tie
 
 abbrev Inv-loop : tie.InvT-loop
 Inv-loop width lock mask₀ value₀ words tmask₀ tvalue₀ c i₀ mask value tmask tvalue i =
-    TrialRows width tmask tvalue × AtRow (lent width lock mask₀ value₀ words) c i (held mask value)
+    OwnRows width tmask tvalue × AtRow (lent width lock mask₀ value₀ words) c i (held mask value)
 
 abbrev μ-loop : tie.MeasureT-loop
 μ-loop width lock mask₀ value₀ words tmask₀ tvalue₀ c i₀ mask value tmask tvalue i = length width - i

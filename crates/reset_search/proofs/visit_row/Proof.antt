@@ -8,7 +8,7 @@ use Rattle.checks.specs.Model.{lent}
 use Rattle.steps.specs.States.{held}
 use Rattle.tables.proofs.Demand3.{start-fits}
 use Rattle.tables.proofs.FullRuns.{accepted-from}
-use Rattle.conclusions.specs.Encoding.{TrialRows}
+use Rattle.steps.specs.Encoding.{OwnRows}
 use Rattle.reset_search.proofs.Passes.{trial-ready, AtBit, bit-none, bit-start, bit-next, bit-end}
 use borrow.Author.Needs.{needs}
 use Rattle.reset_search.proofs.visit_row.Statement.{statement}
@@ -16,7 +16,7 @@ use Rattle.reset_search.proofs.visit_row.Tie as tie
 
 abbrev Inv-loop : tie.InvT-loop
 Inv-loop width lock mask₀ value₀ words tmask₀ tvalue₀ c i w k₀ mask value tmask tvalue k =
-    TrialRows width tmask tvalue × AtBit (lent width lock mask₀ value₀ words) c i k (held mask value)
+    OwnRows width tmask tvalue × AtBit (lent width lock mask₀ value₀ words) c i k (held mask value)
 
 abbrev μ-loop : tie.MeasureT-loop
 μ-loop width lock mask₀ value₀ words tmask₀ tvalue₀ c i w k₀ mask value tmask tvalue k = w - k

@@ -4,7 +4,7 @@ use Rattle.checks.specs.Table.{Table}
 use Rattle.checks.specs.Model.{lent, verdictModel}
 use Rattle.conclusions.specs.Encoding.{Named}
 use Rattle.conclusions.proofs.Answers.{named-of-answer, naming-refused, meets}
-use Rattle.resets.proofs.Rooms.{room-for}
+use Rattle.steps.proofs.Rooms.{room-for}
 use borrow.Author.Needs.{needs}
 use Rattle.resets.proofs.reset_bits.Statement.{statement}
 use Rattle.resets.proofs.reset_bits.Tie as tie

@@ -9,7 +9,7 @@ use Rattle.checks.specs.Model.{lent}
 use Rattle.steps.specs.States.{held}
 use Rattle.tables.specs.Run.{fullRun}
 use Rattle.tables.proofs.Demand3.{start-fits}
-use Rattle.conclusions.proofs.Copies.{copyable}
+use Rattle.steps.proofs.Copies.{copyable}
 use Rattle.conclusions.proofs.Answers.{copies-ready, copies-ran, unknown-refused, known-done}
 use borrow.Author.Needs.{needs}
 use Rattle.resets.proofs.reset_with.Statement.{statement}

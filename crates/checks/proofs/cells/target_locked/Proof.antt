@@ -10,7 +10,7 @@ use Rattle.operations.specs.Kind.{isRow}
 use Rattle.operations.specs.Kinds.{kindOf}
 use Rattle.operations.specs.Memory.{span}
 use Rattle.operations.proofs.Sound.{only-store}
-use Rattle.checks.proofs.Memory.{store-locked, row-locked}
+use Rattle.checks.proofs.Memory.{store-targets, row-targets}
 use borrow.Author.Needs.{needs}
 use Rattle.checks.proofs.cells.target_locked.Statement.{statement}
 use Rattle.checks.proofs.cells.target_locked.Tie as tie
@@ -47,7 +47,7 @@ returns c =
     let a = start (t .before) .args in
     c .span-locked .ensures
     ∙ (λ ι. someOf (λ j. eqb (getD (a .lock .now) j 0) 1) (span (i .before .index .ensures ι) (i .index2 .ensures ι)))
-    ∙ sym (store-locked (a .lock .now) (a .r) (t .if1 .taken))
+    ∙ sym (store-targets (λ j. eqb (getD (a .lock .now) j 0) 1) (a .r) (t .if1 .taken))
 
 returns-2 : tie.Need-returns-2
 returns-2 c =
@@ -55,7 +55,7 @@ returns-2 c =
     let s = start (i .before .before) in
     let a = s .args in
     ap (λ (j : ℕ). eqb (getD (a .lock .now) j 0) 1) (i .index3 .ensures)
-    ∙ sym (row-locked (a .lock .now) (a .r) (only-store (a .r .kind) (s .pre .0) (i .before .if1 .left)))
+    ∙ sym (row-targets (λ j. eqb (getD (a .lock .now) j 0) 1) (a .r) (only-store (a .r .kind) (s .pre .0) (i .before .if1 .left)))
 
 pub target-locked-spec : {M : Type 1} → statement M
 target-locked-spec =

@@ -1,0 +1,2 @@
+-- The definitions of `clocks`.
+pub mod Model

@@ -1,0 +1,2 @@
+-- The laws and proofs of `orders`.
+pub mod Orders

@@ -1,0 +1,3 @@
+-- The definitions of `orders`.
+pub mod Order
+pub mod Model

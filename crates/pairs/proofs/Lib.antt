@@ -1,0 +1,2 @@
+-- The laws and proofs of `pairs`.
+pub mod Targets

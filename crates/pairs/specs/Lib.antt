@@ -1,0 +1,2 @@
+-- The definitions of `pairs`.
+pub mod Encoding

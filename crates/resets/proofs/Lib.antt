@@ -1,2 +1,0 @@
--- The laws and proofs of `resets`.
-pub mod Rooms
