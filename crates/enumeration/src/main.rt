@@ -1,7 +1,10 @@
 // The executed tests: every vector pair to width 4, through the public run on real tables, against plain enumeration of all choices.
 // The output has a line for each kind without cells, then one for all records that name one row twice, one each for `product_bit`, `witnesses`, `range` and
-// `reset_bits`, one for drawn tables that lose nothing, one for loads and stores, one for the examples and the total: the name, the tables tried (for
-// `product_bit`, `witnesses` and `reset_bits` the bits, for `range` the pairs of ends), those that disagree.
+// `reset_bits`, one for drawn tables that lose nothing, one for loads and stores, one each for `settle` and `compare_states`, one for the examples and the
+// total: the name, the tables tried (for `product_bit`, `witnesses` and `reset_bits` the bits, for `range` the pairs of ends, for `compare_states` the pairs of
+// states), those that disagree.
+use clock_trials::compared::ordered;
+use clock_trials::sweeps::settled;
 use lossless_trials::sweeps::lossless;
 use memory_trials::sweeps::memories;
 use oracle::shapes::LOAD;
@@ -53,6 +56,10 @@ fn main() {
     print_line(b"lossless", designs);
     let lookups = memories();
     print_line(b"memory", lookups);
+    let clocks = settled();
+    print_line(b"settle", clocks);
+    let orders = ordered();
+    print_line(b"compare_states", orders);
     let shown = examples();
     print_line(b"examples", shown);
     let calls = joined(joined(bits, pairs), joined(ends, conclusions));
@@ -60,7 +67,10 @@ fn main() {
         b"total",
         joined(
             joined(tables, calls),
-            joined(joined(designs, lookups), shown),
+            joined(
+                joined(designs, lookups),
+                joined(joined(clocks, orders), shown),
+            ),
         ),
     );
 }

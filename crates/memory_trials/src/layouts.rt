@@ -4,9 +4,9 @@ use crate::ADDRESS;
 use crate::BASE;
 use crate::DATA;
 use crate::Question;
-use crate::vectors::vector;
-use crate::vectors::vectors;
-use crate::vectors::vectors_of;
+use crate::row_vectors::vector;
+use crate::row_vectors::vectors;
+use crate::row_vectors::vectors_of;
 use oracle::choices::Row;
 use oracle::numbers::times;
 

@@ -13,8 +13,8 @@ use tables::RunAnswer;
 
 mod layouts; // layouts.rt: the tables by their numbers
 mod plain; // plain.rt: plain runs
+pub mod row_vectors; // row_vectors.rt: the vectors of a row
 pub mod sweeps; // sweeps.rt: the tables tried
-mod vectors; // vectors.rt: the vectors of a row
 
 // The row of the base, and of an address and of data that are no cells.
 const BASE: u64 = 1;

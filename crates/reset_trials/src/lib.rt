@@ -17,7 +17,7 @@ use rows::with_unknown;
 use trials::same;
 
 mod records; // records.rt: records that write row 3
-mod rows; // rows.rt: four rows of 2 bits
+pub mod rows; // rows.rt: four rows of 2 bits
 pub mod sweeps; // sweeps.rt: the tables tried
 
 // A table of such rows, of which rows 0 to 2 may be locked (bits 0 to 2), and two records of these kinds, which write row 3: the first has the operand rows 0 and
