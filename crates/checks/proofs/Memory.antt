@@ -1,12 +1,11 @@
 -- Checks 7 to 10 of a load and a store, as the code makes them. Assumes nothing.
 use mathlib.Core.Path.{_≡_, refl, sym, ap, _∙_}
 use mathlib.Core.Bool.{Bool, true, false, _&&_, _||_}
-use mathlib.Core.List.{List, [], _∷_, map}
+use mathlib.Core.List.{List, [], _∷_}
 use Prim.Native.Nat.{ℕ, _+_}
 use native.Mathlib.Decide.{ℕ-discrete}
 use borrow.Author.Tests.{eq-eqb, ne-eqb}
 use lib.Dec.{T, eqb}
-use lib.ListN.{getD}
 use Rattle.bits.specs.Counted.{listed}
 use Rattle.bits.proofs.Bools.{and-true}
 use Rattle.vectors.specs.Lists.{allOf, someOf}

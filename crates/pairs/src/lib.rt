@@ -1,9 +1,9 @@
 // Check 20 of settle (02, request 12): the pairs of a state row and its next row.
 ghost use mathlib.Core.Path.{_≡_};
 ghost use mathlib.Core.List.{[]};
-ghost use Prim.Native.Nat.{ℕ, _/_, _<_};
+ghost use Prim.Native.Nat.{_/_, _<_};
 ghost use lib.Dec.{T, eqb};
-ghost use lib.ListN.{length, getD};
+ghost use lib.ListN.{length};
 ghost use Rattle.vectors.specs.Lists.{someOf};
 ghost use Rattle.operations.specs.Kinds.{isKind};
 ghost use Rattle.operations.specs.Record.{wordsOf, targetRows};

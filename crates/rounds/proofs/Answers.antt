@@ -16,12 +16,11 @@ use Rattle.vectors.proofs.ListParts.{listed-all, listed-map}
 use Rattle.vectors.proofs.Distincts.{listed-distinct}
 use Rattle.vectors.specs.Lists.{Distinct}
 use Rattle.operations.specs.Record.{widthAt, targetRows}
-use Rattle.checks.specs.Check.{done, refused, Check, placed, Passed}
+use Rattle.checks.specs.Check.{done, refused, placed, Passed}
 use Rattle.checks.specs.Table.{State, Table, startOf, recordCount, recordOf}
 use Rattle.checks.specs.Checks.{runChecks}
-use Rattle.checks.specs.Accepted.{Accepted}
 use Rattle.checks.specs.Model.{judged}
-use Rattle.checks.proofs.Verdicts.{passed-append, passed-left, passed-right, passed-of-done, done-same, rising-elim, verdict-passed, verdict-refused}
+use Rattle.checks.proofs.Verdicts.{passed-append, passed-left, passed-right, passed-of-done, done-same, rising-elim}
 use Rattle.checks.proofs.Accepts.{accepted-of-passed, passed-of-accepted}
 use Rattle.tables.specs.Run.{Ran, effectsAt, fullRun}
 use Rattle.tables.proofs.Fits.{effect-targets}

@@ -2,7 +2,7 @@
 use mathlib.Core.Path.{_≡_, refl, sym, ap, _∙_, subst}
 use mathlib.Core.Logic.{_≢_}
 use mathlib.Core.List.{List}
-use Prim.Native.Nat.{ℕ, zero, suc, _+_, _-_, _≤_, _<_}
+use Prim.Native.Nat.{ℕ, zero, suc, _-_, _≤_, _<_}
 use native.Mathlib.Omega.{arith}
 use lib.ListN.{getD}
 use Rattle.vectors.specs.Lists.{All}
@@ -13,10 +13,10 @@ use Rattle.steps.specs.States.{CoversState}
 use Rattle.tables.specs.Run.{effectsAt, fullRun, pointRows, plainRun}
 use Rattle.tables.specs.Demand.{Demand3}
 use Rattle.tables.proofs.FullRuns.{full-demand3}
-use Rattle.rounds.specs.Clock.{Pair, roundFrom, isLast, roundStart, roundsOf, lastStart, latch, plainClocks}
+use Rattle.rounds.specs.Clock.{Pair, roundFrom, roundStart, roundsOf, lastStart, latch, plainClocks}
 use Rattle.rounds.specs.Settle.{Settles}
 use Rattle.rounds.proofs.Round.{FitPairs, unknownBits, widen-best, widen-around, widen-covers, last-same, full-fits}
-use Rattle.rounds.proofs.Counted.{Kept, kept, rises, Ends, ends-in-time}
+use Rattle.rounds.proofs.Counted.{kept, rises, ends-in-time}
 
 module _ (t : Table) (A : Accepted t 0 (recordCount t)) (ps : List Pair) (K : FitPairs t ps) where
   abbrev last : ℕ

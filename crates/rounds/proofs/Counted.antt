@@ -1,9 +1,9 @@
 -- How many rounds there are: every round but the last raises the unknown bits of the state rows, so the last comes in time. Assumes nothing.
 --   Kept t ps s      what every round keeps
 --   Ends t ps r n    from round r on there are n rounds: the last changes nothing, each before it something
-use mathlib.Core.Path.{_≡_, refl, sym, ap, _∙_, subst}
+use mathlib.Core.Path.{_≡_, refl, sym, _∙_, subst}
 use mathlib.Core.Bool.{not, cond}
-use mathlib.Core.Logic.{_≢_, inl, inr}
+use mathlib.Core.Logic.{_≢_}
 use mathlib.Core.List.{List, map}
 use Prim.Native.Nat.{ℕ, zero, suc, _+_, _-_, _*_, _≤_, _<_}
 use native.Mathlib.Decide.{ℕ-discrete, decLt}
@@ -25,7 +25,7 @@ use Rattle.steps.specs.States.{StateFits, InsideState}
 use Rattle.tables.specs.Run.{fullRun}
 use Rattle.tables.proofs.Demand3.{start-fits}
 use Rattle.rounds.specs.Clock.{Pair, stateBits, roundFrom, isLast, roundStart, roundsFrom, roundsOf}
-use Rattle.rounds.proofs.Round.{FitPairs, unknownBits, widen-fits, widen-around, widen-rises, widen-others, last-same, full-fits}
+use Rattle.rounds.proofs.Round.{FitPairs, unknownBits, widen-fits, widen-around, widen-rises, widen-others, full-fits}
 
 -- the rows fit, all but the state rows are as lent, and every row is around its start
 pub record Kept (t : Table) (ps : List Pair) (s : State) : Type 0 where

@@ -1,9 +1,9 @@
 -- The loops over pairs: no state row changes where each next row lies inside; state rows widened one after another are widened all together. Assumes nothing.
---   Unchanged, Changed      what a loop that stops at the first change goes by
+--   stays .. i              pair i changes nothing
 --   PairsFrom .. i s        the widening at pair i, the rows being s
 use mathlib.Core.Path.{_≡_, refl, sym, ap, _∙_, subst}
 use mathlib.Core.Bool.{Bool, true, false}
-use mathlib.Core.List.{List, [], _∷_}
+use mathlib.Core.List.{List, _∷_}
 use Prim.Native.Nat.{ℕ, suc, _+_, _-_, _≤_, _<_}
 use native.Mathlib.Nat.{sub-zero}
 use native.Mathlib.Numerals.{add-one}
@@ -12,7 +12,7 @@ use lib.Dec.{T, not-T}
 use lib.Ieee.Bits.{is-true, is-false}
 use lib.ListN.{length, getD, set, length-set}
 use Rattle.bits.specs.Counted.{listed}
-use Rattle.vectors.specs.Lists.{All, allOf}
+use Rattle.vectors.specs.Lists.{allOf}
 use Rattle.vectors.specs.Row.{Row}
 use Rattle.vectors.specs.Hull.{join}
 use Rattle.vectors.proofs.Lists.{allOf-all, all-allOf}

@@ -2,7 +2,7 @@
 --   FitPair t p    the rows of a pair are in the table and have one width, and no record writes its state row
 --   FitPairs t ps  all pairs fit, and no two name one state row
 --   unknownBits t ps s   the unknown bits of the state rows, which every round but the last raises
-use mathlib.Core.Path.{_≡_, refl, sym, ap, _∙_, subst}
+use mathlib.Core.Path.{_≡_, refl, sym, ap, subst}
 use mathlib.Core.Bool.{not}
 use mathlib.Core.Logic.{_≢_, _⊎_}
 use mathlib.Core.List.{List, map}

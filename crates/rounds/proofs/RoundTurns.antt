@@ -1,13 +1,12 @@
 -- One turn of the loop over rounds, in the code's terms: all words stepped through, then the start rows widened. Assumes nothing.
 --   AtRound t ps r s   r rounds are over, none of them the last, and the next one starts from the rows s
-use mathlib.Core.Path.{_≡_, refl, sym, ap, _∙_, subst}
+use mathlib.Core.Path.{_≡_, sym, ap, _∙_, subst}
 use mathlib.Core.Bool.{Bool, true, false, not}
 use mathlib.Core.List.{List}
-use Prim.Native.Nat.{ℕ, suc, _+_, _-_, _*_, _≤_, _<_}
+use Prim.Native.Nat.{ℕ, _+_, _-_, _*_, _≤_, _<_}
 use native.Mathlib.Numerals.{add-one}
 use native.Mathlib.Omega.{arith}
 use lib.Dec.{T}
-use lib.ListN.{length}
 use Rattle.bits.specs.Limits.{widthLimit}
 use Rattle.bits.proofs.Below.{below-next}
 use Rattle.checks.specs.Limits.{rowLimit}
@@ -20,7 +19,7 @@ use Rattle.tables.proofs.FullRuns.{full-ready, full-after}
 use Rattle.rounds.specs.Clock.{Pair, pairsOf, stateBits, widen, unchanged, isLast, roundStart, roundsOf, lastStart}
 use Rattle.rounds.specs.Encoding.{PairsReady, WidenReady, SettleReady}
 use Rattle.rounds.proofs.Round.{full-fits}
-use Rattle.rounds.proofs.Counted.{Kept, kept, few-rounds, round-found}
+use Rattle.rounds.proofs.Counted.{kept, few-rounds, round-found}
 use Rattle.rounds.proofs.Answers.{pairs-fit, pairs-ready}
 
 pub record AtRound (t : Table) (ps : List Pair) (r : ℕ) (s : State) : Type 0 where

@@ -1,9 +1,8 @@
 -- `clocks::check_settle` meets its contract: run's checks, then 20. Assumes nothing.
-use mathlib.Core.Path.{_≡_, sym, ap, _∙_}
+use mathlib.Core.Path.{sym, ap, _∙_}
 use mathlib.Core.List.{List}
-use Rattle.checks.specs.Check.{Check, Passed}
+use Rattle.checks.specs.Check.{Check}
 use Rattle.checks.specs.Table.{Table, recordCount}
-use Rattle.checks.specs.Accepted.{Accepted}
 use Rattle.checks.specs.Checks.{runChecks}
 use Rattle.checks.specs.Model.{lent, verdictModel}
 use Rattle.checks.proofs.Verdicts.{passed-of-done}

@@ -1,9 +1,8 @@
 -- `clocks::settle_rounds` meets its contract. The invariant: the rows are those from which the next round starts, and no round before it was the last. Assumes nothing.
-use mathlib.Core.Path.{_≡_, refl, sym, ap, subst, _∙_}
+use mathlib.Core.Path.{_≡_, sym, ap, subst, _∙_}
 use mathlib.Core.List.{List}
 use Prim.Native.Nat.{ℕ, _+_, _-_}
 use native.Mathlib.Omega.{arith}
-use lib.ListN.{length}
 use Rattle.checks.specs.Table.{State, Table, recordCount}
 use Rattle.checks.specs.Model.{lent}
 use Rattle.steps.specs.Step.{after}
@@ -12,11 +11,9 @@ use Rattle.steps.proofs.Copies.{copyable}
 use Rattle.tables.specs.Run.{programOf}
 use Rattle.tables.specs.Encoding.{StretchReady}
 use Rattle.tables.proofs.Demand3.{start-fits}
-use Rattle.rounds.specs.Clock.{Pair, pairsOf, stateBits}
-use Rattle.rounds.specs.Encoding.{SettleReady}
+use Rattle.rounds.specs.Clock.{pairsOf, stateBits}
 use Rattle.rounds.proofs.RoundTurns as turns
 use Rattle.rounds.proofs.RoundTurns.{AtRound}
-use borrow.Author.Needs.{needs}
 use Rattle.clocks.proofs.settle_rounds.Statement.{statement}
 use Rattle.clocks.proofs.settle_rounds.Tie as tie
 

@@ -1,15 +1,14 @@
 -- `orders::compare_states` meets its contract: what the checks refuse, or the order. Assumes nothing.
-use mathlib.Core.Path.{_≡_, sym, ap, _∙_}
+use mathlib.Core.Path.{sym, ap, _∙_}
 use mathlib.Core.List.{List}
 use Prim.Native.Nat.{ℕ}
-use Rattle.checks.specs.Check.{done, placed}
+use Rattle.checks.specs.Check.{done}
 use Rattle.checks.specs.Table.{State}
 use Rattle.checks.specs.Model.{verdictModel}
 use Rattle.checks.proofs.Verdicts.{refused-any, done-of-passed, passed-of-done}
 use Rattle.steps.specs.States.{held}
 use Rattle.orders.specs.declared.Order.{Order}
 use Rattle.orders.specs.Order.{compareChecks, compareOf}
-use Rattle.orders.specs.Model.{compareModel}
 use Rattle.orders.proofs.Orders.{own-rows, lengths, meets}
 use borrow.Author.Needs.{needs}
 use Rattle.orders.proofs.compare_states.Statement.{statement}

@@ -1,8 +1,6 @@
 -- `pairs::check_pairs` meets its contract: the lengths of the two lists, then each pair. Assumes nothing.
-use mathlib.Core.Path.{_≡_, sym, ap, _∙_}
+use mathlib.Core.Path.{sym, ap, _∙_}
 use mathlib.Core.Bool.{not}
-use mathlib.Core.List.{[]}
-use Rattle.checks.specs.Model.{lent}
 use Rattle.checks.proofs.Verdicts.{hits, skips}
 use Rattle.rounds.specs.Settle.{pairChecks}
 use borrow.Author.Tests.{eq-eqb, ne-eqb}

@@ -2,7 +2,6 @@
 use native.Mathlib.Omega.{arith}
 use mathlib.Core.Path.{sym, _∙_}
 use Prim.Native.Nat.{_-_}
-use lib.ListN.{length}
 use Rattle.checks.specs.Table.{Table}
 use Rattle.checks.specs.Model.{lent}
 use Rattle.steps.specs.States.{held}

@@ -4,7 +4,6 @@ use mathlib.Core.List.{List}
 use Prim.Native.Nat.{ℕ, _-_, _≤_}
 use native.Mathlib.Omega.{arith}
 use lib.ListN.{length}
-use Rattle.checks.specs.Table.{State}
 use Rattle.steps.specs.States.{held}
 use Rattle.rounds.proofs.PairTurns.{PairsFrom, pairs-start, pairs-step, pairs-end, put-lengths}
 use borrow.Author.Needs.{needs}

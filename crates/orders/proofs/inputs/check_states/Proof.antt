@@ -1,5 +1,5 @@
 -- `orders::inputs::check_states` meets its contract: 1 and 2, then 4 and 5 of the rows. Assumes nothing.
-use mathlib.Core.Path.{_≡_, sym, ap, _∙_}
+use mathlib.Core.Path.{sym, ap, _∙_}
 use mathlib.Core.List.{List}
 use Prim.Native.Nat.{ℕ}
 use Rattle.checks.specs.Check.{Check, placed}
