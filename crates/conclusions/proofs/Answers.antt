@@ -1,5 +1,5 @@
 -- What reset_bits' checks give, passed or not, and what it then answers and leaves. Assumes nothing.
-use mathlib.Core.Path.{_≡_, refl, sym, ap, _∙_, subst, subst₂}
+use mathlib.Core.Path.{_≡_, refl, sym, ap, _∙_, subst}
 use mathlib.Core.Bool.{not}
 use mathlib.Core.Logic.{_≢_, inl, inr}
 use mathlib.Core.List.{List, [], _++_}
@@ -15,12 +15,12 @@ use Rattle.checks.specs.Check.{done, refused, Check, verdict, placed, Passed}
 use Rattle.checks.specs.Table.{State, Table, startOf, recordCount}
 use Rattle.checks.specs.Checks.{bitFaults, rowNamedFaults, runChecks}
 use Rattle.checks.specs.Model.{judged}
-use Rattle.checks.proofs.Verdicts.{passed-append, passed-left, passed-right, passed-of-done, done-same, hits, clears, verdict-passed, verdict-refused}
+use Rattle.checks.proofs.Verdicts.{passed-append, passed-left, passed-right, passed-of-done, hits, clears, verdict-passed, verdict-refused}
 use Rattle.checks.proofs.Accepts.{accepted-of-passed}
 use Rattle.steps.specs.Step.{after}
 use Rattle.tables.specs.Run.{Ran, programOf, fullRun}
 use Rattle.tables.specs.Encoding.{StretchReady}
-use Rattle.tables.proofs.Leaving.{leaving-done, leaving-refused, leaving-passed}
+use Rattle.tables.proofs.Leaving.{leaving-done, leaving-refused, leaving-claims}
 use Rattle.tables.proofs.Demand3.{start-fits}
 use Rattle.tables.proofs.FullRuns.{full-ready, full-after}
 use Rattle.conclusions.specs.Pass.{ended, passRows}
@@ -93,14 +93,11 @@ module _ (t : Table) (i k : ℕ) where
 
   rests-of-answer : (b : ℕ) → resetOf t i k .answer ≡ done b → RestsOn t (conclusion i k b) (resetOf t i k .rows)
   unfolding resetOf resetChecks
-  rests-of-answer b e =
-      let start = passRows t (conclusion i k (valueOf t i k)) in
-      let P = leaving-passed t start (resetChecks t i k) (valueOf t i k) b e in
+  rests-of-answer =
+      leaving-claims t (passRows t (conclusion i k (valueOf t i k))) (resetChecks t i k) (valueOf t i k) (λ b rows. RestsOn t (conclusion i k b) rows)
+      (λ P.
       let N = named-of-passed (passed-left (namingChecks t i k) last-checks P) in
-      let left = leaving-done t start (resetChecks t i k) (valueOf t i k) P in
-      let value = done-same (valueOf t i k) b (ap (λ (r : Ran). r .answer) left ∙ e) in
-      subst₂ (λ (x : ℕ) (r : State). RestsOn t (conclusion i k x) r) value (ap (λ (r : Ran). r .rows) left)
-      (rests-on t (N .accepted) (conclusion i k (valueOf t i k)) (N .in-table)
+      rests-on t (N .accepted) (conclusion i k (valueOf t i k)) (N .in-table)
       (record { known = unset (ended t i (startOf t) .mask) k (passed-right (namingChecks t i k) last-checks P .0); as-value = refl }))
 
   -- what the contract asks of an answer and the rows left

@@ -1,5 +1,5 @@
 -- What settle's checks give, passed or not, and what it then answers and leaves. Assumes nothing.
-use mathlib.Core.Path.{_≡_, refl, sym, ap, _∙_, subst, subst₂}
+use mathlib.Core.Path.{_≡_, refl, sym, _∙_, subst}
 use mathlib.Core.Logic.{_≢_}
 use mathlib.Core.Bool.{not}
 use mathlib.Core.List.{List}
@@ -20,11 +20,11 @@ use Rattle.checks.specs.Check.{done, refused, placed, Passed}
 use Rattle.checks.specs.Table.{State, Table, startOf, recordCount, recordOf}
 use Rattle.checks.specs.Checks.{runChecks}
 use Rattle.checks.specs.Model.{judged}
-use Rattle.checks.proofs.Verdicts.{passed-append, passed-left, passed-right, passed-of-done, done-same, rising-elim}
+use Rattle.checks.proofs.Verdicts.{passed-append, passed-left, passed-right, passed-of-done, rising-elim}
 use Rattle.checks.proofs.Accepts.{accepted-of-passed, passed-of-accepted}
 use Rattle.tables.specs.Run.{Ran, effectsAt, fullRun}
 use Rattle.tables.proofs.Fits.{effect-targets}
-use Rattle.tables.proofs.Leaving.{leaving-done, leaving-refused, leaving-passed}
+use Rattle.tables.proofs.Leaving.{leaving-done, leaving-refused, leaving-claims}
 use Rattle.rounds.specs.Clock.{Pair, pairAt, pairsOf, roundsOf, lastStart}
 use Rattle.rounds.specs.Settle.{writtenRow, stateTwice, unevenFaults, pairFaults, eachPairChecks, pairChecks, settleChecks, settleOf, Settles}
 use Rattle.rounds.specs.Encoding.{PairsReady, SettleReady}
@@ -112,13 +112,9 @@ module _ (t : Table) (ss ns : List ℕ) where
 
   settles-of-answer : (n : ℕ) → settleOf t ss ns .answer ≡ done n → Settles t (pairsOf ss ns) n (settleOf t ss ns .rows)
   unfolding settleOf
-  settles-of-answer n e =
-      let rows = fullRun t (lastStart t (pairsOf ss ns)) in
-      let P = leaving-passed t rows (settleChecks t ss ns) (roundsOf t (pairsOf ss ns)) n e in
-      let R = ready-of-passed P in
-      let left = leaving-done t rows (settleChecks t ss ns) (roundsOf t (pairsOf ss ns)) P in
-      subst₂ (Settles t (pairsOf ss ns)) (done-same (roundsOf t (pairsOf ss ns)) n (ap (λ (r : Ran). r .answer) left ∙ e)) (ap (λ (r : Ran). r .rows) left)
-      (settles t (R .accepted) (pairsOf ss ns) (pairs-fit (R .paired)))
+  settles-of-answer =
+      leaving-claims t (fullRun t (lastStart t (pairsOf ss ns))) (settleChecks t ss ns) (roundsOf t (pairsOf ss ns)) (Settles t (pairsOf ss ns))
+      (λ P. let R = ready-of-passed P in settles t (R .accepted) (pairsOf ss ns) (pairs-fit (R .paired)))
 
   -- what the contract asks of an answer and the rows left
   abbrev pub Meets : Ran → Type 0

@@ -1,11 +1,11 @@
 -- What a call that works on the rows answers and leaves, from the verdict of its checks. Assumes nothing.
-use mathlib.Core.Path.{_≡_, refl, sym, ap, _∙_}
+use mathlib.Core.Path.{_≡_, refl, sym, ap, subst₂, _∙_}
 use mathlib.Core.List.{List}
 use Prim.Native.Nat.{ℕ}
 use Rattle.checks.specs.Check.{Answer, done, refused, Check, verdict, Passed}
 use Rattle.checks.specs.Table.{State, Table, startOf}
 use Rattle.checks.specs.Model.{judged}
-use Rattle.checks.proofs.Verdicts.{done-of-passed, passed-of-done, refused-any}
+use Rattle.checks.proofs.Verdicts.{done-of-passed, passed-of-done, done-same, refused-any}
 use Rattle.tables.specs.Run.{Ran, leaving}
 
 module _ (t : Table) (s : State) where
@@ -25,3 +25,10 @@ module _ (t : Table) (s : State) where
     -- an answer that is a result shows that the checks passed
     pub leaving-passed : (m : ℕ) → leaving (verdict cs n) t s .answer ≡ done m → Passed cs
     leaving-passed m e = passed-of-done cs n m (sym (leaving-answer (verdict cs n)) ∙ e)
+
+    -- what holds of the result and of the rows of a call whose checks pass holds of every answer that is a result
+    pub leaving-claims : (Claim : ℕ → State → Type 0) → (Passed cs → Claim n s) → (m : ℕ) → leaving (verdict cs n) t s .answer ≡ done m → Claim m (leaving (verdict cs n) t s .rows)
+    leaving-claims Claim holds m e =
+        let P = leaving-passed m e in
+        let left = leaving-done P in
+        subst₂ Claim (done-same n m (ap (λ (r : Ran). r .answer) left ∙ e)) (ap (λ (r : Ran). r .rows) left) (holds P)
