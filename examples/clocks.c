@@ -30,19 +30,6 @@ static struct vectors state_now(void)
     return now;
 }
 
-static int load_file(const char *name)
-{
-    static char text[RIFFLERLEEK_TEXT_LIMIT + 2]; // a byte more than a text may have, and a last 0
-    FILE *file = fopen(name, "rb");
-    if (file == NULL) {
-        perror(name);
-        return 0;
-    }
-    text[fread(text, 1, sizeof text - 1, file)] = 0;
-    fclose(file);
-    return load(text);
-}
-
 // The rows become those of the last round. A refusal leaves them as they were.
 static int settle(const struct design *d, const char *name)
 {

@@ -1,10 +1,10 @@
 // Rifflerleek in a Rust program: what do three designs reach in all clocks, whatever their inputs are?
 //   rustc --edition 2021 -L target/staticlib examples/clocks.rs
 
-#[allow(dead_code)] // host.rs has calls of its own
+#[allow(dead_code)] // the other programs have calls of their own
 mod rifflerleek; // rifflerleek.rs: the calls and constants
 #[macro_use]
-mod table; // table.rs: a table, read and written
+mod table; // table.rs: a table, read, run and written
 
 use table::{result, Refusal, Table};
 

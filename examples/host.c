@@ -14,8 +14,7 @@ static const char text[] = "edition\t3\n"
 
 static void run(void)
 {
-    rifflerleek_answer a = rifflerleek_run(width, rows, lock, rows, mask, rows, value, rows, words, WORDS * records, 0, records);
-    if (!refused("run", a.refusal, a.place)) // else the rows are as they were
+    if (run_all())
         print();
 }
 

@@ -1,22 +1,16 @@
 // Rifflerleek in a Rust program: does an index that is partly unknown stay inside its array?
 //   rustc --edition 2021 -L target/staticlib examples/host.rs
 
-#[allow(dead_code)] // clocks.rs has calls of its own
+#[allow(dead_code)] // the other programs have calls of their own
 mod rifflerleek; // rifflerleek.rs: the calls and constants
 #[macro_use]
-mod table; // table.rs: a table, read and written
+mod table; // table.rs: a table, read, run and written
 mod vectors; // vectors.rs: the calls on vectors that stand in no table
 
 use table::{Refusal, Table};
 use vectors::Bare;
 
 impl Table {
-    // All records; a refusal leaves the rows as they were.
-    fn run(&mut self) -> Result<usize, Refusal> {
-        let (words, length) = (self.words.as_ptr(), self.words.len());
-        Ok(call!(rifflerleek_run, self, words, length, 0, length / rifflerleek::RECORD_WORDS)?.0)
-    }
-
     fn count(&mut self, row: usize) -> Result<(usize, u64), Refusal> {
         call!(rifflerleek_count, self, row)
     }

@@ -42,5 +42,6 @@ extern "C" {
     pub fn rifflerleek_range(width: u32, mask: u32, value: u32, low: u64, high: u64) -> FourNumbers;
     pub fn rifflerleek_reset_bits(width: *const u8, widths: usize, lock: *const u8, locks: usize, mask: *mut u32, masks: usize, value: *mut u32, values: usize, words: *const u32, word_count: usize, row: usize, bit: u32) -> Answer;
     pub fn rifflerleek_settle(width: *const u8, widths: usize, lock: *const u8, locks: usize, mask: *mut u32, masks: usize, value: *mut u32, values: usize, words: *const u32, word_count: usize, states: *const u32, state_count: usize, nexts: *const u32, next_count: usize) -> Answer;
+    pub fn rifflerleek_prune(width: *const u8, widths: usize, lock: *const u8, locks: usize, mask: *const u32, masks: usize, value: *const u32, values: usize, words: *mut u32, word_count: usize, marks: *const u8, mark_count: usize) -> Answer;
     pub fn rifflerleek_compare_states(width: *const u8, widths: usize, mask_1: *const u32, masks_1: usize, value_1: *const u32, values_1: usize, mask_2: *const u32, masks_2: usize, value_2: *const u32, values_2: usize) -> Answer;
 }

@@ -1,4 +1,4 @@
-// The table of an example program: what it lends to the library, and how it is loaded and printed.
+// The table of an example program: what it lends to the library, and how it is loaded, run and printed.
 #ifndef TABLE_H
 #define TABLE_H
 
@@ -43,6 +43,27 @@ static void print(void)
 {
     rifflerleek_answer a = rifflerleek_write(width, rows, lock, rows, mask, rows, value, rows, words, WORDS * records, out, sizeof out);
     fwrite(out, 1, a.result, stdout);
+}
+
+// These two are inline since some of the programs do without them.
+static inline int load_file(const char *name)
+{
+    static char text[RIFFLERLEEK_TEXT_LIMIT + 2]; // a byte more than a text may have, and a last 0
+    FILE *file = fopen(name, "rb");
+    if (file == NULL) {
+        perror(name);
+        return 0;
+    }
+    text[fread(text, 1, sizeof text - 1, file)] = 0;
+    fclose(file);
+    return load(text);
+}
+
+// Runs all records; a refusal leaves the rows as they were.
+static inline int run_all(void)
+{
+    rifflerleek_answer a = rifflerleek_run(width, rows, lock, rows, mask, rows, value, rows, words, WORDS * records, 0, records);
+    return !refused("run", a.refusal, a.place);
 }
 
 #endif

@@ -1,4 +1,4 @@
-// A table as a Rust program lends it to Rifflerleek, read from a text and written as one.
+// A table as a Rust program lends it to Rifflerleek, read from a text, run and written as one.
 
 use crate::rifflerleek;
 
@@ -53,6 +53,13 @@ impl Table {
         t.value.truncate(rows);
         t.words.truncate(rifflerleek::RECORD_WORDS * records as usize);
         Ok(t)
+    }
+
+    // All records; a refusal leaves the rows as they were.
+    #[allow(dead_code)] // clocks.rs settles instead
+    pub(crate) fn run(&mut self) -> Result<usize, Refusal> {
+        let (words, length) = (self.words.as_ptr(), self.words.len());
+        Ok(call!(rifflerleek_run, self, words, length, 0, length / rifflerleek::RECORD_WORDS)?.0)
     }
 
     pub(crate) fn text(&mut self) -> Result<String, Refusal> {

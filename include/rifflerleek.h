@@ -20,6 +20,9 @@
  * Clocks. Where the records are what one clock does, lent pairs name a state row and its next row, whose number goes to the state row
  * after the clock.
  *
+ * Marks. Where records are to be dropped that feed nothing, lent marks, one a row, say what is to be fed.
+ *   marks[i]  1 where row i is wanted after a run of all records, else 0
+ *
  * States. A call on two states takes no table. It is lent one width slice and, for each state, a mask slice and a value slice, as many
  * rows in each and with the same meaning as a table's.
  *
@@ -50,7 +53,7 @@ extern "C" {
 
 /* Rises by one with every change that a host can see: of a name, a number, a call, an answer or a lent byte. The header that had
  * no version is version 1. CHANGELOG.md names the changes. */
-#define RIFFLERLEEK_VERSION 13
+#define RIFFLERLEEK_VERSION 14
 
 /* Limits. */
 #define RIFFLERLEEK_ROW_LIMIT 256      /* rows in a table */
@@ -87,6 +90,7 @@ extern "C" {
  *   rifflerleek_range            1     80
  *   rifflerleek_reset_bits       5   2936
  *   rifflerleek_settle           5   2872
+ *   rifflerleek_prune            2    504
  *   rifflerleek_compare_states   1     64
  */
 #define RIFFLERLEEK_DEPTH_LIMIT 5    /* the greatest depth of a call */
@@ -153,6 +157,7 @@ enum {
  *   range              4, 5, 17, 18
  *   reset_bits         1 to 10 as run of all records; then 7 of the row named, 15, 19
  *   settle             1 to 10 as run of all records; then 20
+ *   prune              1 to 10 as run of all records; then 21
  *   compare_states     1, 2; then the rows from 0 on, at each 4, 5 of the first state, 5 of the second */
 enum {
     RIFFLERLEEK_DONE = 0,             /* no refusal */
@@ -183,9 +188,10 @@ enum {
     RIFFLERLEEK_REFUSED_ENDS = 17,    /* low is greater than high, or an end is not below 2^width; place 0 */
     RIFFLERLEEK_REFUSED_EMPTY = 18,   /* no number lies between the ends and is covered by the vector; place 0 */
     RIFFLERLEEK_REFUSED_UNKNOWN = 19, /* the bit is unknown (X) after the run; place 0 */
-    RIFFLERLEEK_REFUSED_PAIRS = 20    /* the two slices of pairs differ in length, a row of a pair is outside the table, the two rows of
+    RIFFLERLEEK_REFUSED_PAIRS = 20,   /* the two slices of pairs differ in length, a row of a pair is outside the table, the two rows of
                                          a pair differ in width, or a state row is named twice, is locked, is a record's target or is in
                                          a store's span, whatever its address can be; place 0 */
+    RIFFLERLEEK_REFUSED_MARKS = 21    /* the marks are fewer or more than the rows, or a mark is over 1; place 0 */
 };
 
 /* How the first of two states lies to the second, as rifflerleek_compare_states answers it: the first of these that holds. A row lies
@@ -288,6 +294,21 @@ rifflerleek_answer rifflerleek_reset_bits(const uint8_t *width, size_t widths, c
 rifflerleek_answer rifflerleek_settle(const uint8_t *width, size_t widths, const uint8_t *lock, size_t locks, uint32_t *mask,
                                       size_t masks, uint32_t *value, size_t values, const uint32_t *words, size_t word_count,
                                       const uint32_t *states, size_t state_count, const uint32_t *nexts, size_t next_count);
+
+/* Tables grown out of old designs: drops the records that feed no marked row. The needed rows are the marked ones at first, and the
+ * records are visited from the last one back. A record stays exactly if a row that it may write is needed then: its target, or for a store
+ * any row of its span, whatever its address can be. If it stays, its target is no longer needed, and then its operands are, the condition
+ * of an ite among them, and for a load its address and its whole span; so a row that is both is needed. Of a store that stays address and
+ * data are needed, and every other row of its span is needed or not as before. The records that stay move down to the start of words, in
+ * their order, and the words after them become 0. result is how many stay: the table is then the same rows with the first
+ * RIFFLERLEEK_RECORD_WORDS * result words. From any well-formed start rows, not those lent alone, a run of all its records is accepted and
+ * leaves every marked row as a run of all the old ones does; other rows may end otherwise. A locked row may be marked. A store may stay
+ * though it changes no row that is needed: mask and value are checked and no more. They are only read, and so are the marks. The time is
+ * linear in the records and in the rows that they name, those of spans among them. Refusals 1 to 10, as rifflerleek_run of all records;
+ * then 21: no word is changed. */
+rifflerleek_answer rifflerleek_prune(const uint8_t *width, size_t widths, const uint8_t *lock, size_t locks, const uint32_t *mask,
+                                     size_t masks, const uint32_t *value, size_t values, uint32_t *words, size_t word_count,
+                                     const uint8_t *marks, size_t mark_count);
 
 /* How two whole states lie to each other, row by row: two sets of rows over one width slice, such as what rifflerleek_settle leaves of
  * one design and of another. result is RIFFLERLEEK_ORDER_EQUAL, _INSIDE, _AROUND or _NONE: the first state is equal to the second, inside

@@ -7,7 +7,8 @@
 enum { GUARD = 64 };
 
 const char *const call_names[CALLS] = {"run",   "count",       "size",      "write", "read 1",     "read 2", "read 3",
-                                       "field", "product_bit", "witnesses", "range", "reset_bits", "settle", "compare_states"};
+                                       "field", "product_bit", "witnesses", "range", "reset_bits", "settle", "prune",
+                                       "compare_states"};
 unsigned seen[CALLS][REFUSALS];
 size_t call_number;
 

@@ -20,9 +20,10 @@ enum {
     RANGE,
     RESET_BITS,
     SETTLE,
+    PRUNE,
     COMPARE_STATES,
     CALLS,
-    REFUSALS = 21
+    REFUSALS = 22
 };
 
 extern const char *const call_names[CALLS];

@@ -1,11 +1,13 @@
-// Random calls, valid and damaged, every range to width 5, the resets of small tables, and every two small states: the library and the
-// reference must give the same answer (of witnesses the same refusal, else pairs that the reference finds right) and leave the same bytes,
-// also around and beyond what they write; a text that was read must be written back as it should; and what settle leaves must cover plain
-// clocks. Every answer of every call, and every kind of record, must occur, each kind of two operands also with one row named twice, and
-// what the reports of memories, texts, vectors, ranges, resets, clocks and states count; and no call may take more stack than the header
-// says, which tests/host/depth reads off the archive.
+// Random calls, valid and damaged, every range to width 5, the resets of small tables, every two records to prune, and every two small
+// states: the library and the reference must give the same answer (of witnesses the same refusal, else pairs that the reference finds
+// right) and leave the same bytes, also around and beyond what they write; a text that was read must be written back as it should; what
+// settle leaves must cover plain clocks; and marked rows must end as before with the records that prune leaves. Every answer of every call,
+// and every kind of record, must occur, each kind of two operands also with one row named twice, and what the reports of memories, texts,
+// vectors, ranges, resets, clocks, prunings and states count; and no call may take more stack than the header says, which tests/host/depth
+// reads off the archive.
 // usage: differential [SEED [CALLS]]
 #include "memory_counts.h"
+#include "prune_calls.h"
 #include "range_calls.h"
 #include "reset_calls.h"
 #include "settle_calls.h"
@@ -18,7 +20,8 @@
 
 // The answers that each call has, as bits: bit 0 for a result, bit n for refusal n.
 static const unsigned answers[CALLS] = {0x7ff,  0x0b7,  0x3ff,   0x43ff,  0x3805,  0x3805,   0x3805,
-                                        0x0001, 0x8031, 0x18071, 0x60031, 0x887ff, 0x1007ff, 0x0037};
+                                        0x0001, 0x8031, 0x18071, 0x60031, 0x887ff, 0x1007ff, 0x2007ff,
+                                        0x0037};
 
 static unsigned steps[KINDS], steps_twice[KINDS];
 
@@ -140,6 +143,7 @@ static int report(void)
     missing += report_ranges();
     missing += report_resets();
     missing += report_settles();
+    missing += report_prunings();
     return missing + report_states();
 }
 
@@ -148,9 +152,9 @@ int main(int argc, char **argv)
     static void (*const calls[])(void) = {call_run,         call_run,       call_run,       call_run,   call_count, call_size,
                                           call_write,       call_read,      call_read,      call_field, call_trip,  call_product_bit,
                                           call_product_bit, call_witnesses, call_witnesses, call_range, call_range, call_reset_bits,
-                                          call_reset_bits,  call_settle,    call_settle,    call_compare_states};
+                                          call_reset_bits,  call_settle,    call_settle,    call_prune, call_prune, call_compare_states};
     uint64_t from = argc > 1 ? strtoull(argv[1], NULL, 10) : 1;
-    size_t count = argc > 2 ? strtoull(argv[2], NULL, 10) : 176000;
+    size_t count = argc > 2 ? strtoull(argv[2], NULL, 10) : 192000;
     printf("seed %llu, %zu calls\n", (unsigned long long)from, count);
     fflush(stdout);
     seed(from);
@@ -158,6 +162,7 @@ int main(int argc, char **argv)
         calls[below(sizeof calls / sizeof *calls)]();
     sweep_ranges();
     sweep_resets();
+    sweep_prunings();
     sweep_states();
     int missing = report();
     size_t stack = library_stack();

@@ -1,12 +1,12 @@
-// Random vectors, tables, pairs of rows, states and texts, valid and damaged.
+// Random vectors, tables, pairs of rows, marks, states and texts, valid and damaged.
 #ifndef DRAW_H
 #define DRAW_H
 
 #include "reference.h"
 
-// Enough for every text of 40,000 bytes, and for more pairs than a table has rows; 2^LIMIT choices of operands for a bit; the styles of
-// draw_vector; the greatest width of narrow rows, which 2^LIMIT choices settle.
-enum { MAX_ROWS = 4000, MAX_WORDS = 18000, MAX_TEXT = 60000, MAX_PAIRS = 400, LIMIT = 14, STYLES = 10, NARROW = 6 };
+// Enough for every text of 40,000 bytes, and for more pairs and marks than a table has rows; 2^LIMIT choices of operands for a bit; the
+// styles of draw_vector; the greatest width of narrow rows, which 2^LIMIT choices settle.
+enum { MAX_ROWS = 4000, MAX_WORDS = 18000, MAX_TEXT = 60000, MAX_PAIRS = 400, MAX_MARKS = 600, LIMIT = 14, STYLES = 10, NARROW = 6 };
 
 // A table with slices of any lengths, and a stretch.
 struct draft {
@@ -28,6 +28,13 @@ struct clocked {
     uint32_t states[MAX_PAIRS], nexts[MAX_PAIRS];
     size_t state_count, next_count;
     unsigned limit;
+};
+
+// A table, and marks of its rows.
+struct pruned {
+    struct draft d;
+    uint8_t marks[MAX_MARKS];
+    size_t mark_count;
 };
 
 // Two states over one width slice, with slices of any lengths.
@@ -125,8 +132,14 @@ void add_pair(struct clocked *q, uint32_t state, uint32_t next);
 // One fault, after a cause of ref_pair_causes, or more than 256 pairs where that is PAIR_CAUSES. The pairs may still be accepted.
 void damage_pairs(struct clocked *q, unsigned cause);
 
-// The two slices of the pairs; the five of two states.
+// A table with marks, two of three without a fault, else with up to three, of the marks or the table. Its records are any, or most of them
+// are loads and stores on rows of one width. No row is marked, all are, one that a record writes, few or many. Seldom it has 256 rows and 1,024
+// records.
+void draw_pruned(struct pruned *q);
+
+// The two slices of the pairs; that of the marks; the five of two states.
 struct ref_pairs pairs_of(struct clocked *q);
+struct ref_marks marks_of(struct pruned *q);
 struct ref_states states_of(struct state_draft *s);
 
 // Two states, the second often made from the first: in one row or in many wider, narrower, both, or with other known bits. Two of five have up

@@ -5,9 +5,10 @@
 
 enum { STACK = 1 << 16, PAINT = 0x5c };
 
-// The call at hand: its slices, its buffer or text, its two numbers, and its answer.
+// The call at hand: its slices, its marks, its buffer or text, its two numbers, and its answer.
 static struct {
     struct ref_table t;
+    struct ref_marks marks;
     uint8_t *out;
     const uint8_t *text;
     size_t length, x, y;
@@ -58,6 +59,11 @@ static void make_reset_bits(void)
     call.answer = rifflerleek_reset_bits(ROWS, WORDS, call.x, (uint32_t)call.y);
 }
 
+static void make_prune(void)
+{
+    call.answer = rifflerleek_prune(ROWS, WORDS, call.marks.mark, call.marks.count);
+}
+
 static void make_size(void)
 {
     call.answer = rifflerleek_size(ROWS, WORDS);
@@ -105,6 +111,13 @@ rifflerleek_answer library_reset_bits(struct ref_table *t, size_t row, uint32_t 
     call.x = row;
     call.y = bit;
     return answer_of(make_reset_bits);
+}
+
+rifflerleek_answer library_prune(struct ref_table *t, const struct ref_marks *m)
+{
+    call.t = *t;
+    call.marks = *m;
+    return answer_of(make_prune);
 }
 
 rifflerleek_answer library_size(struct ref_table *t)

@@ -10,6 +10,7 @@ rifflerleek_answer library_run(struct ref_table *t, size_t first, size_t last);
 rifflerleek_answer library_count(struct ref_table *t, size_t row);
 rifflerleek_answer library_reset_bits(struct ref_table *t, size_t row, uint32_t bit);
 rifflerleek_answer library_settle(struct ref_table *t, const struct ref_pairs *p);
+rifflerleek_answer library_prune(struct ref_table *t, const struct ref_marks *m);
 rifflerleek_answer library_compare_states(const struct ref_states *s);
 rifflerleek_answer library_size(struct ref_table *t);
 rifflerleek_answer library_write(struct ref_table *t, uint8_t *out, size_t length);

@@ -29,6 +29,12 @@ struct ref_pairs {
     size_t state_count, next_count;
 };
 
+// A lent slice of marks, one a row.
+struct ref_marks {
+    uint8_t *mark;
+    size_t count;
+};
+
 // Two states over one width slice, five slices in all, each with its own length.
 struct ref_states {
     uint8_t *width;
@@ -111,6 +117,9 @@ uint32_t ref_record(const struct ref_table *t, size_t r, int locked_too);
 // Whether a record writes a row: its target, or any cell of a store.
 int ref_may_write(const uint32_t *record, size_t row);
 
+// Whether what a record writes hangs on a row: an operand, or any cell of a load. The cells that a store leaves do not count.
+int ref_reads(const uint32_t *record, size_t row);
+
 // Refusals 1 to 10: without a stretch (no check of first and last, and no 10) where run is 0.
 struct ref_answer ref_check(const struct ref_table *t, int run, size_t first, size_t last);
 
@@ -159,6 +168,16 @@ int ref_inside(uint32_t width, struct ref_vector v, struct ref_vector w);
 
 // exact as of ref_run, for the run of every round: where it becomes 0 the answer and the rows say nothing.
 struct ref_answer ref_settle(struct ref_table *t, const struct ref_pairs *p, unsigned limit, int *exact);
+
+// Why marks are refused as 21, every cause there is: bit n of the result for cause n, in the order of the enum.
+enum { FEWER_MARKS, MORE_MARKS, MARK_OVER_ONE, MARK_CAUSES };
+unsigned ref_mark_causes(const struct ref_table *t, const struct ref_marks *m);
+
+// One record of the way back: the rows that are needed after it become those that are needed before it. Whether it stays.
+int ref_step_back(const uint32_t *record, size_t rows, uint8_t *needed);
+
+// Worked out from the last record back, and also from each record on where there are few.
+struct ref_answer ref_prune(struct ref_table *t, const struct ref_marks *m);
 
 // The result is 0 for equal, 1 for inside, 2 for around, 3 for none of these.
 struct ref_answer ref_compare_states(const struct ref_states *s);

@@ -6,6 +6,8 @@ pub mod RecordChecks
 pub mod Accepts
 pub mod Rules
 pub mod VerdictParts
+pub mod Leaving
+pub mod Words
 pub mod Naming
 pub mod Recording
 pub mod Memory

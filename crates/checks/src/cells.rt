@@ -1,11 +1,12 @@
 // Checks 7 to 10 of a load and a store (02, request 11).
 ghost use mathlib.Core.Path.{_≡_};
-ghost use lib.Dec.{T};
-ghost use lib.ListN.{length};
+ghost use lib.Dec.{T, eqb};
+ghost use lib.ListN.{length, getD};
+ghost use Rattle.vectors.specs.Lists.{someOf};
 ghost use Rattle.operations.specs.Kind.{isBase};
 ghost use Rattle.operations.specs.Kinds.{isKind, kindOf};
-ghost use Rattle.operations.specs.Record.{wordsOf};
-ghost use Rattle.operations.specs.Faults.{namedFaults, widthsFit, targetLocked};
+ghost use Rattle.operations.specs.Record.{wordsOf, targetRows};
+ghost use Rattle.operations.specs.Faults.{namedFaults, widthsFit};
 ghost use Rattle.checks.specs.Check.{placed};
 ghost use Rattle.checks.specs.Model.{verdictModel, judged};
 ghost use Rattle.checks.specs.Encoding.{spanFaults, WordsPassed, TargetsIn};
@@ -18,7 +19,7 @@ use operations::LOAD;
 use operations::Record;
 use operations::STORE;
 use spans::span_fits;
-use spans::span_locked;
+use spans::span_marked;
 
 // The first of checks 7 and 8 that fails: of two rows, the span, and the unused word; i is its place. Two words cannot wrap as a usize.
 fn check_span(n: usize, x: u32, y: u32, base: u32, count: u32, zero: u32, i: usize) -> Verdict
@@ -71,14 +72,14 @@ pub fn cells_fit(width: &[u8], r: Record) -> bool
     span_fits(width, base, count, width[d])
 }
 
-// Whether a row that the record writes is locked.
-pub fn target_locked(lock: &[u8], r: Record) -> bool
-    requires { ⌜ T (isKind (r .kind)) × TargetsIn (length (now lock)) r ⌝ }
-    ensures { λ b. ⌜ b ≡ targetLocked (now (lock .entry)) (wordsOf r) ⌝ }
+// Whether a row that the record writes is marked by a 1: as locked, or as needed (02, request 13).
+pub fn target_marked(marks: &[u8], r: Record) -> bool
+    requires { ⌜ T (isKind (r .kind)) × TargetsIn (length (now marks)) r ⌝ }
+    ensures { λ b. ⌜ b ≡ someOf (λ i. eqb (getD (now (marks .entry)) i 0) 1) (targetRows (wordsOf r)) ⌝ }
 {
     if r.kind == STORE {
-        return span_locked(lock, index(r.c), index(r.p));
+        return span_marked(marks, index(r.c), index(r.p));
     }
     let t = index(r.t);
-    lock[t] == 1
+    marks[t] == 1
 }

@@ -15,7 +15,7 @@ ghost use Rattle.checks.specs.Model.{lent, verdictModel, judged};
 ghost use Rattle.checks.specs.Encoding.{WordsPassed, TargetsIn, lockWith, recordWith, recordsWith};
 use crate::Verdict;
 use crate::cells::cells_fit;
-use crate::cells::target_locked;
+use crate::cells::target_marked;
 use crate::described::rule_fits;
 use crate::described::width_at;
 use crate::named::check_named;
@@ -88,7 +88,7 @@ fn check_lock(locked: bool, lock: &[u8], r: Record, i: usize) -> Verdict
     ensures { λ v. ⌜ verdictModel v ≡ judged (lockWith locked (now (lock .entry)) (wordsOf r) i) ⌝ }
 {
     if locked {
-        if target_locked(lock, r) {
+        if target_marked(lock, r) {
             return refuse(refusals::LOCKED, i);
         }
     }

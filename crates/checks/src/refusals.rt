@@ -39,3 +39,5 @@ pub const EMPTY: u32 = 18;
 pub const UNKNOWN: u32 = 19;
 
 pub const PAIRS: u32 = 20;
+
+pub const MARKS: u32 = 21;

@@ -13,4 +13,4 @@ settleModel (Rounds n) = done n
 settleModel (Refused r) = refused (r .number) (r .place)
 
 abbrev pub settled : SettleAnswer → List ℕ → List ℕ → Ran
-settled r masks values = record { answer = settleModel r; rows = held masks values }
+settled r masks values = record { answer = settleModel r; left = held masks values }

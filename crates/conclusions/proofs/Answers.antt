@@ -20,7 +20,7 @@ use Rattle.checks.proofs.Accepts.{accepted-of-passed}
 use Rattle.steps.specs.Step.{after}
 use Rattle.tables.specs.Run.{Ran, programOf, fullRun}
 use Rattle.tables.specs.Encoding.{StretchReady}
-use Rattle.tables.proofs.Leaving.{leaving-done, leaving-refused, leaving-claims}
+use Rattle.checks.proofs.Leaving.{leaving-done, leaving-refused, leaving-claims, Meets, meets}
 use Rattle.tables.proofs.Demand3.{start-fits}
 use Rattle.tables.proofs.FullRuns.{full-ready, full-after}
 use Rattle.conclusions.specs.Pass.{ended, passRows}
@@ -68,41 +68,37 @@ module _ (t : Table) (i k : ℕ) where
     -- ---- what is answered then
 
     -- the bit ends X
-    pub unknown-refused : bit (ended t i (startOf t) .mask) k ≢ 0 → _≡_ {A = Ran} (record { answer = refused 19 0; rows = startOf t }) (resetOf t i k)
+    pub unknown-refused : bit (ended t i (startOf t) .mask) k ≢ 0 → _≡_ {A = Ran} (record { answer = refused 19 0; left = startOf t }) (resetOf t i k)
     unfolding resetOf resetChecks
     unknown-refused e =
-        leaving-refused t _ (resetChecks t i k) (valueOf t i k) 19 0
+        leaving-refused (startOf t) _ (resetChecks t i k) (valueOf t i k) 19 0
         (verdict-passed (namingChecks t i k) last-checks tt (N .passed) ∙ hits _ [] (isSet-true (ended t i (startOf t) .mask) k (let l = bit-lt (ended t i (startOf t) .mask) k in omega arith)))
 
     -- it ends known
     pub known-done : bit (ended t i (startOf t) .mask) k ≡ 0 → (b : ℕ) → b ≡ valueOf t i k → (rows : State) → rows ≡ passRows t (conclusion i k b)
-        → _≡_ {A = Ran} (record { answer = done b; rows = rows }) (resetOf t i k)
+        → _≡_ {A = Ran} (record { answer = done b; left = rows }) (resetOf t i k)
     unfolding resetOf resetChecks
     known-done e b f rows g =
-        (λ ι. record { answer = done (f ι); rows = (g ∙ ap (λ (x : ℕ). passRows t (conclusion i k x)) f) ι })
-        ∙ leaving-done t (passRows t (conclusion i k (valueOf t i k))) (resetChecks t i k) (valueOf t i k)
+        (λ ι. record { answer = done (f ι); left = (g ∙ ap (λ (x : ℕ). passRows t (conclusion i k x)) f) ι })
+        ∙ leaving-done (startOf t) (passRows t (conclusion i k (valueOf t i k))) (resetChecks t i k) (valueOf t i k)
         (passed-append (namingChecks t i k) last-checks (N .passed) (passed-of-done last-checks tt tt (clears _ (isSet-false (ended t i (startOf t) .mask) k e))))
 
   -- a refusal before that
-  pub naming-refused : (n j : ℕ) → judged (namingChecks t i k) ≡ refused n j → _≡_ {A = Ran} (record { answer = refused n j; rows = startOf t }) (resetOf t i k)
+  pub naming-refused : (n j : ℕ) → judged (namingChecks t i k) ≡ refused n j → _≡_ {A = Ran} (record { answer = refused n j; left = startOf t }) (resetOf t i k)
   unfolding resetOf resetChecks
   naming-refused n j e =
-      leaving-refused t _ (resetChecks t i k) (valueOf t i k) n j (verdict-refused (namingChecks t i k) last-checks tt tt n j e)
+      leaving-refused (startOf t) _ (resetChecks t i k) (valueOf t i k) n j (verdict-refused (namingChecks t i k) last-checks tt tt n j e)
 
   -- ---- the claim, of every call that is answered
 
-  rests-of-answer : (b : ℕ) → resetOf t i k .answer ≡ done b → RestsOn t (conclusion i k b) (resetOf t i k .rows)
+  rests-of-answer : (b : ℕ) → resetOf t i k .answer ≡ done b → RestsOn t (conclusion i k b) (resetOf t i k .left)
   unfolding resetOf resetChecks
   rests-of-answer =
-      leaving-claims t (passRows t (conclusion i k (valueOf t i k))) (resetChecks t i k) (valueOf t i k) (λ b rows. RestsOn t (conclusion i k b) rows)
+      leaving-claims (startOf t) (passRows t (conclusion i k (valueOf t i k))) (resetChecks t i k) (valueOf t i k) (λ b rows. RestsOn t (conclusion i k b) rows)
       (λ P.
       let N = named-of-passed (passed-left (namingChecks t i k) last-checks P) in
       rests-on t (N .accepted) (conclusion i k (valueOf t i k)) (N .in-table)
       (record { known = unset (ended t i (startOf t) .mask) k (passed-right (namingChecks t i k) last-checks P .0); as-value = refl }))
 
-  -- what the contract asks of an answer and the rows left
-  abbrev pub Meets : Ran → Type 0
-  Meets a = (a ≡ resetOf t i k) × ((b : ℕ) → a .answer ≡ done b → RestsOn t (conclusion i k b) (a .rows))
-
-  pub meets : (a : Ran) → a ≡ resetOf t i k → Meets a
-  meets a e = subst Meets (sym e) (refl, rests-of-answer)
+  pub reset-meets : (a : Ran) → a ≡ resetOf t i k → Meets (resetOf t i k) (λ b rows. RestsOn t (conclusion i k b) rows) a
+  reset-meets = meets (resetOf t i k) (λ b rows. RestsOn t (conclusion i k b) rows) rests-of-answer

@@ -17,10 +17,10 @@ use lib.ListN.{length, getD}
 use Rattle.bits.specs.Bit.{bit, isSet}
 use Rattle.operations.specs.Record.{widthAt}
 use Rattle.operations.specs.Faults.{Fault, fault}
-use Rattle.checks.specs.Check.{done, Check, verdict, placed}
+use Rattle.checks.specs.Check.{done, leaving, Check, verdict, placed}
 use Rattle.checks.specs.Table.{State, rowAt, Table, startOf, withRows, recordCount}
 use Rattle.checks.specs.Checks.{bitFaults, rowNamedFaults, runChecks}
-use Rattle.tables.specs.Run.{Ran, leaving, runOf}
+use Rattle.tables.specs.Run.{Ran, runOf}
 use Rattle.steps.specs.States.{StateFits, InsideState}
 use Rattle.conclusions.specs.declared.Conclusion.{Conclusion}
 use Rattle.conclusions.specs.Pass.{ended, Concludes, Position, forget, knownAt, passRows}
@@ -48,7 +48,7 @@ resetChecks t i k = namingChecks t i k ++ placed 0 (unknownFaults t i k)
 
 -- "The rows are left with these start vectors, and the answer is the bit's value."
 unfoldable pub resetOf : Table → ℕ → ℕ → Ran
-resetOf t i k = leaving (verdict (resetChecks t i k) (valueOf t i k)) t (passRows t (conclusion i k (valueOf t i k)))
+resetOf t i k = leaving (verdict (resetChecks t i k) (valueOf t i k)) (startOf t) (passRows t (conclusion i k (valueOf t i k)))
 
 -- ---- the claim
 

@@ -82,6 +82,7 @@ fn print_refusals() {
     print_refusal(b"empty", refusals::EMPTY);
     print_refusal(b"unknown", refusals::UNKNOWN);
     print_refusal(b"pairs", refusals::PAIRS);
+    print_refusal(b"marks", refusals::MARKS);
 }
 
 // The most bytes of a row line, as the definitions have it.

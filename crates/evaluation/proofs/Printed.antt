@@ -22,18 +22,18 @@ use Rattle.evaluation.specs.Evaluate.{Printed, outputRoom, refusedLine, 
 
 module _ (t : Table) where
   -- run refused
-  pub printed-refused : (n i : ℕ) (rows : State) → _≡_ {A = Ran} (record { answer = refused n i; rows = rows }) (runOf t 0 (recordCount t)) → refusedLine n i ≡ printedTable t
+  pub printed-refused : (n i : ℕ) (rows : State) → _≡_ {A = Ran} (record { answer = refused n i; left = rows }) (runOf t 0 (recordCount t)) → refusedLine n i ≡ printedTable t
   unfolding printedTable
   printed-refused n i rows e = ap (λ (r : Ran). printedRun t r (r .answer)) e
 
   -- run accepted: the table that is written
-  pub printed-done : (m : ℕ) (rows : State) → _≡_ {A = Ran} (record { answer = done m; rows = rows }) (runOf t 0 (recordCount t)) → textOf (withRows t rows) ≡ printedTable t
+  pub printed-done : (m : ℕ) (rows : State) → _≡_ {A = Ran} (record { answer = done m; left = rows }) (runOf t 0 (recordCount t)) → textOf (withRows t rows) ≡ printedTable t
   unfolding printedTable
   printed-done m rows e = ap (λ (r : Ran). printedRun t r (r .answer)) e
 
   -- and its text fits the output buffer
-  pub written-done : (m : ℕ) (rows : State) → _≡_ {A = Ran} (record { answer = done m; rows = rows }) (runOf t 0 (recordCount t)) → (out : List ℕ) → outputRoom ≤ length out
-      → writeOf (withRows t rows) out ≡ record { answer = done (length (textOf (withRows t rows))); buffer = filled (textOf (withRows t rows)) out }
+  pub written-done : (m : ℕ) (rows : State) → _≡_ {A = Ran} (record { answer = done m; left = rows }) (runOf t 0 (recordCount t)) → (out : List ℕ) → outputRoom ≤ length out
+      → writeOf (withRows t rows) out ≡ record { answer = done (length (textOf (withRows t rows))); left = filled (textOf (withRows t rows)) out }
   written-done m rows e out h = written (withRows t rows) out (passed .table) (omega (arith, text-size (withRows t rows) (passed .table), passed .table .rows-most, passed .table .records-most))
     where
       accepted : Accepted t 0 (recordCount t)
@@ -42,7 +42,7 @@ module _ (t : Table) where
       passed : Accepted (withRows t rows) 0 (recordCount t)
       passed =
           accepted-with t 0 (recordCount t) accepted rows
-          (subst (StateFits (t .widths)) (sym (ap (λ (r : Ran). r .rows) (e ∙ ran-done t 0 (recordCount t) accepted))) (after-fits (programOf t) 0 (startOf t) (start-fits t (accepted .table)) _))
+          (subst (StateFits (t .widths)) (sym (ap (λ (r : Ran). r .left) (e ∙ ran-done t 0 (recordCount t) accepted))) (after-fits (programOf t) 0 (startOf t) (start-fits t (accepted .table)) _))
           (recordCount t) (accepted .ordered) (omega arith)
 
 done-same : (a b : ℕ) → _≡_ {A = Answer ℕ} (done a) (done b) → a ≡ b
@@ -57,15 +57,15 @@ printed-as {old = old} e p = record { count = p .count ∙ ap length e; buffer =
 pub printed-within : {x : List ℕ} {r : ℕ} {old new : List ℕ} → Printed x r old new → r ≤ length new
 printed-within {x} {old = old} p = let e = ap length (p .buffer) ∙ length-append x (drop (length x) old) in let f = p .count in omega arith
 
-module _ (t : Table) (m : ℕ) (rows : State) (e : _≡_ {A = Ran} (record { answer = done m; rows = rows }) (runOf t 0 (recordCount t))) (old : List ℕ) (h : outputRoom ≤ length old) where
-  pub print-written : (n : ℕ) (new : List ℕ) → _≡_ {A = Written} (record { answer = done n; buffer = new }) (writeOf (withRows t rows) old) → Printed (printedTable t) n old new
+module _ (t : Table) (m : ℕ) (rows : State) (e : _≡_ {A = Ran} (record { answer = done m; left = rows }) (runOf t 0 (recordCount t))) (old : List ℕ) (h : outputRoom ≤ length old) where
+  pub print-written : (n : ℕ) (new : List ℕ) → _≡_ {A = Written} (record { answer = done n; left = new }) (writeOf (withRows t rows) old) → Printed (printedTable t) n old new
   print-written n new w =
       let q = w ∙ written-done t m rows e old h in
       printed-as (printed-done t m rows e)
-      (record { count = done-same n (length (textOf (withRows t rows))) (ap (λ (x : Written). x .answer) q); buffer = ap (λ (x : Written). x .buffer) q })
+      (record { count = done-same n (length (textOf (withRows t rows))) (ap (λ (x : Written). x .answer) q); buffer = ap (λ (x : Written). x .left) q })
 
   -- write does not refuse what run accepted
-  pub never-refused : (n i : ℕ) (new : List ℕ) → _≡_ {A = Written} (record { answer = refused n i; buffer = new }) (writeOf (withRows t rows) old) → ⊥
+  pub never-refused : (n i : ℕ) (new : List ℕ) → _≡_ {A = Written} (record { answer = refused n i; left = new }) (writeOf (withRows t rows) old) → ⊥
   never-refused n i new w = not-done n i (length (textOf (withRows t rows))) (ap (λ (x : Written). x .answer) (w ∙ written-done t m rows e old h))
 
 -- ---- read

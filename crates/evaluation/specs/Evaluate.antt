@@ -62,7 +62,7 @@ unfoldable pub refusedLine : ℕ → ℕ → List ℕ
 refusedLine n i = joined tab (refusedWord ∷ decimal n ∷ decimal i ∷ []) ++ lf ∷ []
 
 abbrev pub printedRun : Table → Ran → Answer ℕ → List ℕ
-printedRun t r (done last) = textOf (withRows t (r .rows))
+printedRun t r (done last) = textOf (withRows t (r .left))
 printedRun t r (refused n i) = refusedLine n i
 
 -- "runs all records and prints the whole table"

@@ -1,6 +1,6 @@
 -- Which rows and records have lines in the grammar, and the words of a record. Assumes nothing.
 --   row-fits, record-fits  a row and a record of a table that passed have lines in the grammar
---   words-after-kind, record-length, words-length   the words of a record, and of all
+--   words-after-kind, words-length   the words of a record after its kind, and of all records
 use mathlib.Core.Path.{_≡_, refl, sym, subst}
 use mathlib.Core.Bool.{Bool}
 use mathlib.Core.List.{List, [], _∷_}
@@ -8,14 +8,14 @@ use Prim.Native.Nat.{ℕ, _*_, _<_}
 use native.Mathlib.Nat.{div-add-mod'}
 use native.Mathlib.Omega.{arith}
 use lib.Dec.{T, leb, le→leb}
-use lib.ListN.{length, drop, length-drop}
-use lib.Seq.{length-take-le}
+use lib.ListN.{length, drop}
 use Rattle.vectors.specs.Lists.{allOf}
 use Rattle.operations.specs.Limits.{recordWords}
 use Rattle.operations.specs.Kind.{Use}
 use Rattle.operations.specs.Record.{targetWord, firstWord, secondWord, parameterWord, sixthWord, kindIn}
 use Rattle.checks.specs.Table.{Table, recordCount, recordOf}
 use Rattle.checks.specs.Accepted.{TablePassed}
+use Rattle.checks.proofs.Words.{record-length}
 use Rattle.grammar.specs.Limits.{numberLimit}
 use Rattle.grammar.specs.Print.{lineRow}
 use Rattle.grammar.proofs.Tests.{all-cons, all-one}
@@ -37,9 +37,6 @@ module _ (t : Table) (P : TablePassed t) where
   pub words-length : length (t .words) ≡ recordWords * recordCount t
   words-length = omega (arith, P .words-whole, div-add-mod' (length (t .words)) recordWords)
 
-  pub record-length : (i : ℕ) → i < recordCount t → length (recordOf t i) ≡ recordWords
-  record-length i h = length-take-le recordWords (drop (recordWords * i) (t .words)) (omega (arith, length-drop (recordWords * i) (t .words), words-length))
-
   pub row-fits : (i : ℕ) → i < length (t .widths) → RowFits (lineRow t i)
   row-fits i h =
       let R = P .row-passed i h in
@@ -52,9 +49,9 @@ module _ (t : Table) (P : TablePassed t) where
       let f = words-fit (t .widths) words (P .record-passed i h) in
       let small : (u : Use) (w : ℕ) → WordFits u n w → T (leb w numberLimit) = λ u w x. le→leb w numberLimit (word-small u n w (P .rows-most) x) in
       record {
-        count = record-length i h;
+        count = record-length t i h;
         known = P .record-passed i h .kind-known;
-        small = subst (λ (l : List ℕ). T (allOf most l)) (sym (words-after-kind words (record-length i h)))
+        small = subst (λ (l : List ℕ). T (allOf most l)) (sym (words-after-kind words (record-length t i h)))
             (all-cons most (targetWord words) _ (small (kindIn words .use-t) (targetWord words) (f .target))
             (all-cons most (firstWord words) _ (small (kindIn words .use-a) (firstWord words) (f .first))
             (all-cons most (secondWord words) _ (small (kindIn words .use-b) (secondWord words) (f .second))

@@ -17,6 +17,7 @@ use Rattle.operations.specs.Kinds.{kinds, isKind, kindOf}
 use Rattle.operations.specs.Record.{kindWord, targetWord, firstWord, secondWord, parameterWord, sixthWord, kindIn}
 use Rattle.checks.specs.Table.{Table, recordCount, recordOf}
 use Rattle.checks.specs.Accepted.{TablePassed}
+use Rattle.checks.proofs.Words.{record-length}
 use Rattle.bits.specs.Limits.{widthLimit}
 use Rattle.bits.specs.Counted.{listed}
 use Rattle.grammar.specs.Limits.{rowBytes, recordBytes}
@@ -28,7 +29,7 @@ use Rattle.grammar.proofs.Letters.{letters-length}
 use Rattle.grammar.proofs.LockWords.{lock-length}
 use Rattle.grammar.proofs.Names.{kind-passes}
 use Rattle.grammar.proofs.WordUses.{WordFits, words-fit}
-use Rattle.grammar.proofs.RecordLines.{words-after-kind, record-length}
+use Rattle.grammar.proofs.RecordLines.{words-after-kind}
 
 -- ---- a line: each field and the byte after it
 
@@ -97,7 +98,7 @@ record-most t P i h =
     let k = kind-passes lineFits kinds-fit (kindWord words) (P .record-passed i h .kind-known) .0 in
     omega (
       arith,
-      record-bytes words (record-length t P i h),
+      record-bytes words (record-length t i h),
       leb→le (longest (kindIn words)) recordBytes k,
       word-length n (P .rows-most) (kindIn words .use-t) (targetWord words) (f .target),
       word-length n (P .rows-most) (kindIn words .use-a) (firstWord words) (f .first),

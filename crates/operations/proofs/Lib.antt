@@ -6,6 +6,7 @@ pub mod Digits
 pub mod Sound
 pub mod Twice
 pub mod Parts
+pub mod SixWords
 pub mod TwoRows
 pub mod DoubledKinds
 pub mod Spelling

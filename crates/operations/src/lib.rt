@@ -2,11 +2,14 @@
 // A description is a digit of two bits to each kind, kind 0 the last: a shift reads it, and no table lies in memory. There is room for 32 kinds.
 ghost use mathlib.Core.Bool.{_&&_};
 ghost use mathlib.Core.Path.{_≡_};
-ghost use Prim.Native.Nat.{_<_};
+ghost use Prim.Native.Nat.{_+_, _≤_, _<_};
 ghost use lib.Dec.{T, eqb};
 ghost use lib.ListN.{length, getD};
+ghost use lib.Seq.{sets};
+ghost use Rattle.operations.specs.Limits.{recordWords};
 ghost use Rattle.operations.specs.Kind.{isBase};
 ghost use Rattle.operations.specs.Kinds.{isKind, kindOf};
+ghost use Rattle.operations.specs.Record.{wordsOf};
 ghost use Rattle.operations.specs.Encoding.{digitOf, useCode, wordClass, ruleCode};
 
 // A record by its words: kind, target row t, operand rows a and b, parameter p, and the sixth word c, a base row or the condition.
@@ -21,6 +24,19 @@ pub struct Record {
 
 // Words in a record.
 pub const RECORD_WORDS: usize = 6;
+
+// The words of a record, put into the slice from `at` on.
+pub fn put_record(words: &mut [u32], at: usize, r: Record)
+    requires { ⌜ at + recordWords ≤ length (now words) ⌝ }
+    ensures { λ u. ⌜ now (words .exit) ≡ sets (now (words .entry)) at (wordsOf r) ⌝ }
+{
+    words[at] = r.kind;
+    words[at + 1] = r.t;
+    words[at + 2] = r.a;
+    words[at + 3] = r.b;
+    words[at + 4] = r.p;
+    words[at + 5] = r.c;
+}
 
 // How many kinds there are.
 pub const KINDS: u32 = 26;

@@ -13,4 +13,4 @@ resetModel (Value b) = done b
 resetModel (Refused r) = refused (r .number) (r .place)
 
 abbrev pub resetRan : ResetAnswer → List ℕ → List ℕ → Ran
-resetRan r masks values = record { answer = resetModel r; rows = held masks values }
+resetRan r masks values = record { answer = resetModel r; left = held masks values }

@@ -6,10 +6,10 @@ use Prim.Native.Nat.{ℕ, _≤_}
 use native.Mathlib.Omega.{arith}
 use lib.Dec.{eqb}
 use Rattle.checks.specs.Check.{Answer, done, refused, verdict}
-use Rattle.checks.specs.Table.{State, Table}
+use Rattle.checks.specs.Table.{State, Table, startOf}
 use Rattle.tables.specs.Run.{fullRun}
 use Rattle.steps.specs.States.{held}
-use Rattle.tables.proofs.Leaving.{leaving-answer}
+use Rattle.checks.proofs.Leaving.{leaving-answer}
 use Rattle.orders.specs.declared.Order.{Order}
 use Rattle.orders.specs.declared.Order.the-variants.{Equal, Inside, Around, NoneOfThese}
 use Rattle.orders.specs.declared.CompareAnswer.{CompareAnswer}
@@ -20,21 +20,21 @@ use Rattle.rounds.specs.Settle.{settleChecks, settleOf, Settles}
 use Rattle.clocks.specs.declared.SettleAnswer.{SettleAnswer}
 use Rattle.clocks.specs.Model.{settleModel, settled}
 use Rattle.rifflerleek.specs.declared.Answer.{Answer as HostAnswer}
-use Rattle.rifflerleek.specs.Host.{numberAnswer, orderNumber, orderAnswer, outcome, hostRan}
+use Rattle.rifflerleek.specs.Host.{numberAnswer, orderNumber, orderAnswer, outcome, hostLeaves}
 use Rattle.rifflerleek.proofs.Numbered.{settle-refused, compare-refused}
-use Rattle.rifflerleek.proofs.HostRows.{rows-hosted}
+use Rattle.rifflerleek.proofs.HostLeaves.{claims-hosted}
 
 module _ (t : Table) (ss ns : List ℕ) where
   numbered : (n j : ℕ) → settleOf t ss ns .answer ≡ refused n j → 1 ≤ n
   unfolding settleOf
-  numbered n j e = settle-refused t ss ns n j (sym (leaving-answer t (fullRun t (lastStart t (pairsOf ss ns))) (verdict (settleChecks t ss ns) (roundsOf t (pairsOf ss ns)))) ∙ e)
+  numbered n j e = settle-refused t ss ns n j (sym (leaving-answer (startOf t) (fullRun t (lastStart t (pairsOf ss ns))) (verdict (settleChecks t ss ns) (roundsOf t (pairsOf ss ns)))) ∙ e)
 
   -- r: the call's answer, found to be s; h: what the host is handed for it
   pub settle-hosted : (r s : SettleAnswer) (h : HostAnswer) (masks values : List ℕ) → r ≡ s → h ≡ numberAnswer (settleModel s)
       → (settled r masks values ≡ settleOf t ss ns) × ((n : ℕ) → settleModel r ≡ done n → Settles t (pairsOf ss ns) n (held masks values))
-      → (outcome h (held masks values) ≡ hostRan (settleOf t ss ns)) × (h .refusal ≡ 0 → Settles t (pairsOf ss ns) (h .result) (held masks values))
+      → (outcome h (held masks values) ≡ hostLeaves (settleOf t ss ns)) × (h .refusal ≡ 0 → Settles t (pairsOf ss ns) (h .result) (held masks values))
   settle-hosted r s h masks values g e f =
-      rows-hosted (settleOf t ss ns) numbered (Settles t (pairsOf ss ns)) (settleModel r) h (held masks values) (e ∙ ap (λ (x : SettleAnswer). numberAnswer (settleModel x)) (sym g)) f
+      claims-hosted (settleOf t ss ns) numbered (Settles t (pairsOf ss ns)) (settleModel r) h (held masks values) (e ∙ ap (λ (x : SettleAnswer). numberAnswer (settleModel x)) (sym g)) f
 
 -- ---- compare_states
 

@@ -2,8 +2,9 @@
 pub mod Hosted
 pub mod Numbered
 pub mod HostRanges
-pub mod HostRows
+pub mod HostLeaves
 pub mod HostResets
 pub mod HostClocks
+pub mod HostPrunes
 pub mod Runs
 pub mod Starts

@@ -1,4 +1,4 @@
--- The refusals of run, of reset_bits, of settle, of compare_states, of witnesses and of range have numbers from 1 on. Assumes nothing.
+-- The refusals of run, of reset_bits, of settle, of compare_states, of prune, of witnesses and of range have numbers from 1 on. Assumes nothing.
 use mathlib.Core.Path.{_≡_}
 use mathlib.Core.List.{List, _++_}
 use Prim.Native.Nat.{ℕ, _≤_}
@@ -17,6 +17,8 @@ use Rattle.conclusions.specs.Reset.{valueOf, unknownFaults, namingChecks, reset
 use Rattle.orders.specs.Order.{orderOf, compareShapeFaults, compareRowFaults, compareRowChecks, compareChecks, compareOf}
 use Rattle.rounds.specs.Clock.{pairsOf, roundsOf}
 use Rattle.rounds.specs.Settle.{unevenFaults, pairFaults, eachPairChecks, pairChecks, settleChecks}
+use Rattle.needs.specs.Needs.{keptOf}
+use Rattle.needs.specs.Prune.{markFaults, pruneChecks}
 use Rattle.vector_calls.specs.Witnesses.{witnessChecks}
 use Rattle.vector_calls.specs.Ranges.{rangeChecks, rangeOf}
 
@@ -65,6 +67,14 @@ module _ (widths : List ℕ) (p q : State) where
   pub compare-refused : (n j : ℕ) → compareOf widths p q ≡ refused n j → 1 ≤ n
   unfolding compareOf
   compare-refused n j e = leb→le 1 n (refused-number (leb 1) (compareChecks widths p q) (orderOf widths p q) n j compare-numbered e)
+
+module _ (t : Table) (marks : List ℕ) where
+  prune-numbered : T (numbered (leb 1) (pruneChecks t marks))
+  unfolding pruneChecks
+  prune-numbered = numbered-append (leb 1) (runChecks t 0 (recordCount t)) (placed 0 (markFaults (length (t .widths)) marks)) (run-numbered t 0 (recordCount t)) tt
+
+  pub prune-refused : (n j : ℕ) → verdict (pruneChecks t marks) (length (keptOf t marks)) ≡ refused n j → 1 ≤ n
+  prune-refused n j e = leb→le 1 n (refused-number (leb 1) (pruneChecks t marks) (length (keptOf t marks)) n j prune-numbered e)
 
 module _ (kind w ma va mb vb k : ℕ) where
   witness-numbered : T (numbered (leb 1) (witnessChecks kind w ma va mb vb k))

@@ -13,17 +13,17 @@ use Rattle.tables.specs.Run.{programOf, Ran, runOf}
 use Rattle.tables.specs.declared.RunAnswer.{RunAnswer}
 use Rattle.tables.specs.Model.{runModel, ran}
 use Rattle.steps.specs.States.{held}
-use Rattle.tables.proofs.Leaving.{leaving-answer}
+use Rattle.checks.proofs.Leaving.{leaving-answer}
 use Rattle.tables.proofs.RunLaws.{Meets}
 use Rattle.rifflerleek.specs.declared.Answer.{Answer as HostAnswer}
-use Rattle.rifflerleek.specs.Host.{numberAnswer, outcome, hostRan}
+use Rattle.rifflerleek.specs.Host.{numberAnswer, outcome, hostLeaves}
 use Rattle.rifflerleek.proofs.Numbered.{run-refused}
-use Rattle.rifflerleek.proofs.HostRows.{told-done}
+use Rattle.rifflerleek.proofs.HostLeaves.{told-done}
 
 module _ (t : Table) (first last : ℕ) where
   run-answer : runOf t first last .answer ≡ verdict (runChecks t first last) last
   unfolding runOf
-  run-answer = leaving-answer t (after (programOf t) first (last - first) (startOf t)) (verdict (runChecks t first last) last)
+  run-answer = leaving-answer (startOf t) (after (programOf t) first (last - first) (startOf t)) (verdict (runChecks t first last) last)
 
   -- a done run answers last
   done-last : (n : ℕ) → runOf t first last .answer ≡ done n → done n ≡ done last
@@ -38,12 +38,12 @@ module _ (t : Table) (first last : ℕ) where
 
   -- r: run's answer, found to be s; h: what the host is handed for it
   pub run-hosted : (r s : RunAnswer) (h : HostAnswer) (masks values : List ℕ) → r ≡ s → h ≡ numberAnswer (runModel s) → Meets t first last (ran r masks values)
-      → (outcome h (held masks values) ≡ hostRan (runOf t first last))
+      → (outcome h (held masks values) ≡ hostLeaves (runOf t first last))
       × ((h .refusal ≡ 0 → Demand2 t first last (held masks values)) × (h .refusal ≡ 0 → Demand3 t first last (held masks values)))
   run-hosted r s h masks values g e f =
       let k = ap (λ (x : RunAnswer). ran x masks values) (sym g) ∙ f .0 in
       let is-done : h .refusal ≡ 0 → runModel r ≡ done last =
       λ z. ap runModel g ∙ zero-done (runModel s) (ap (λ (x : Ran). x .answer) k) (ap (λ (a : HostAnswer). a .refusal) (sym e) ∙ z) in (
-        ap (λ (a : HostAnswer). outcome a (held masks values)) e ∙ ap hostRan k,
+        ap (λ (a : HostAnswer). outcome a (held masks values)) e ∙ ap hostLeaves k,
         (λ z. f .1 .0 (is-done z), λ z. f .1 .1 (is-done z)),
       )

@@ -1,6 +1,6 @@
 -- What a host program is handed: the paper's answer as a struct, of two numbers or of four, and what the call leaves (01, "Calls": "the result, or a refusal holding its number and its place").
 --   hostResult a b      a result of two numbers: refusal 0;   hostRefusal n p   a refusal: its number and its place
---   numberAnswer      of run, size, write, reset_bits and settle, whose result is one number;   countAnswer   of count;   countsAnswer   of read
+--   numberAnswer      of run, size, write, reset_bits, settle and prune, whose result is one number;   countAnswer   of count;   countsAnswer   of read
 --   endsAnswer        of field: where the part begins and ends
 --   bitNumber b       an output bit as a number: 2 for X;   bitAnswer   of product_bit
 --   orderNumber o     an order as a number;   orderAnswer   of compare_states
@@ -8,7 +8,7 @@
 --   pairOf x y        two of them as operands
 --   rangeAnswer       of range: a vector's mask and value, the smallest and the largest number;   rangeHeld r   these of a host's answer
 --   Outcome L         an answer, and what the call leaves in the slices;   outcome r left   these of a host
---   hostRan, hostWritten, hostRead   these of what run, reset_bits and settle, write, and read answer and leave
+--   hostLeaves, hostRead   these of what run, reset_bits, settle, prune and write, and of what read answer and leave
 use mathlib.Core.Path.{_≡_}
 use mathlib.Core.List.{List}
 use Prim.Native.Nat.{ℕ}
@@ -16,11 +16,11 @@ use Rattle.vectors.specs.declared.OutputBit.{OutputBit}
 use Rattle.vectors.specs.declared.OutputBit.the-variants.{Zero, One, Unknown}
 use Rattle.witness_search.specs.declared.Pair.{Pair}
 use Rattle.range_search.specs.declared.Range.{Range}
-use Rattle.checks.specs.Check.{Answer, done, refused}
-use Rattle.checks.specs.Table.{State, Table}
-use Rattle.tables.specs.Run.{Ran, Count}
+use Rattle.checks.specs.Check.{Answer, done, refused, Leaves}
+use Rattle.checks.specs.Table.{Table}
+use Rattle.tables.specs.Run.{Count}
 use Rattle.grammar.specs.Cut.{Ends}
-use Rattle.texts.specs.Calls.{Written, Counts, ReadBack}
+use Rattle.texts.specs.Calls.{Counts, ReadBack}
 use Rattle.orders.specs.declared.Order.{Order}
 use Rattle.orders.specs.declared.Order.the-variants.{Equal, Inside, Around, NoneOfThese}
 use Rattle.rifflerleek.specs.declared.Answer.{Answer as HostAnswer}
@@ -103,11 +103,8 @@ pub record Outcome (L : Type 0) : Type 0 where
 abbrev pub outcome : {L : Type 0} → HostAnswer → L → Outcome L
 outcome r left = record { answer = r; left = left }
 
-abbrev pub hostRan : Ran → Outcome State
-hostRan ran = outcome (numberAnswer (ran .answer)) (ran .rows)
-
-abbrev pub hostWritten : Written → Outcome (List ℕ)
-hostWritten written = outcome (numberAnswer (written .answer)) (written .buffer)
+abbrev pub hostLeaves : {L : Type 0} → Leaves L → Outcome L
+hostLeaves a = outcome (numberAnswer (a .answer)) (a .left)
 
 abbrev pub hostRead : ReadBack → Outcome Table
 hostRead back = outcome (countsAnswer (back .answer)) (back .slices)

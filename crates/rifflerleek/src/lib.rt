@@ -8,7 +8,7 @@ ghost use Rattle.steps.specs.States.{held};
 ghost use Rattle.tables.specs.Run.{runOf, countOf};
 ghost use Rattle.grammar.specs.Cut.{fieldEnds};
 ghost use Rattle.texts.specs.Calls.{sizeOf, writeOf, readOf};
-ghost use Rattle.rifflerleek.specs.Host.{hostResult, hostRefusal, numberAnswer, countAnswer, endsAnswer, outcome, hostRan, hostWritten, hostRead};
+ghost use Rattle.rifflerleek.specs.Host.{hostResult, hostRefusal, numberAnswer, countAnswer, endsAnswer, outcome, hostLeaves, hostRead};
 use checks::Refusal;
 use grammar::LF;
 use grammar::TAB;
@@ -19,6 +19,7 @@ use tables::RunAnswer;
 use texts::BytesAnswer;
 use texts::ReadAnswer;
 
+mod prune_exports; // prune_exports.rt: the records that marked rows rest on
 mod reset_exports; // reset_exports.rt: which reset bits a conclusion rests on
 mod settle_exports; // settle_exports.rt: clock after clock until it settles, and the ordering of two states
 mod vector_exports; // vector_exports.rt: the calls on bare vectors
@@ -84,7 +85,7 @@ pub extern "C" fn rifflerleek_run(
 ) -> Answer
     ensures effect { λ r.
         let table = lent (now (width .entry)) (now (lock .entry)) (now (mask .entry)) (now (value .entry)) (now (words .entry)) in
-        ⌜ outcome r (held (now (mask .exit)) (now (value .exit))) ≡ hostRan (runOf table first last) ⌝ }
+        ⌜ outcome r (held (now (mask .exit)) (now (value .exit))) ≡ hostLeaves (runOf table first last) ⌝ }
     ensures demand2 { λ r.
         let table = lent (now (width .entry)) (now (lock .entry)) (now (mask .entry)) (now (value .entry)) (now (words .entry)) in
         ⌜ (r .refusal ≡ 0 → Demand2 table first last (held (now (mask .exit)) (now (value .exit)))) ⌝ }
@@ -146,7 +147,7 @@ pub extern "C" fn rifflerleek_write(
 ) -> Answer
     ensures { λ r.
         let table = lent (now (width .entry)) (now (lock .entry)) (now (mask .entry)) (now (value .entry)) (now (words .entry)) in
-        ⌜ outcome r (now (out .exit)) ≡ hostWritten (writeOf table (now (out .entry))) ⌝ }
+        ⌜ outcome r (now (out .exit)) ≡ hostLeaves (writeOf table (now (out .entry))) ⌝ }
 {
     match texts::write(width, lock, mask, value, words, out) {
         BytesAnswer::Bytes(n) => done(n, 0),

@@ -3,7 +3,7 @@ ghost use mathlib.Core.Path.{_≡_};
 ghost use Rattle.checks.specs.Model.{lent};
 ghost use Rattle.steps.specs.States.{held};
 ghost use Rattle.conclusions.specs.Reset.{conclusion, resetOf, RestsOn};
-ghost use Rattle.rifflerleek.specs.Host.{outcome, hostRan};
+ghost use Rattle.rifflerleek.specs.Host.{outcome, hostLeaves};
 use crate::Answer;
 use crate::done;
 use crate::refused;
@@ -22,7 +22,7 @@ pub extern "C" fn rifflerleek_reset_bits(
 ) -> Answer
     ensures effect { λ r.
         let table = lent (now (width .entry)) (now (lock .entry)) (now (mask .entry)) (now (value .entry)) (now (words .entry)) in
-        ⌜ outcome r (held (now (mask .exit)) (now (value .exit))) ≡ hostRan (resetOf table row bit) ⌝ }
+        ⌜ outcome r (held (now (mask .exit)) (now (value .exit))) ≡ hostLeaves (resetOf table row bit) ⌝ }
     ensures rests { λ r.
         let table = lent (now (width .entry)) (now (lock .entry)) (now (mask .entry)) (now (value .entry)) (now (words .entry)) in
         ⌜ (r .refusal ≡ 0 → RestsOn table (conclusion row bit (r .result)) (held (now (mask .exit)) (now (value .exit)))) ⌝ }

@@ -6,7 +6,7 @@ ghost use Rattle.orders.specs.declared.Order.{Order};
 ghost use Rattle.orders.specs.Order.{compareOf, OrderMeans};
 ghost use Rattle.rounds.specs.Clock.{pairsOf};
 ghost use Rattle.rounds.specs.Settle.{settleOf, Settles};
-ghost use Rattle.rifflerleek.specs.Host.{outcome, hostRan, orderNumber, orderAnswer};
+ghost use Rattle.rifflerleek.specs.Host.{outcome, hostLeaves, orderNumber, orderAnswer};
 use crate::Answer;
 use crate::ORDER_AROUND;
 use crate::ORDER_EQUAL;
@@ -31,7 +31,7 @@ pub extern "C" fn rifflerleek_settle(
 ) -> Answer
     ensures effect { λ r.
         let table = lent (now (width .entry)) (now (lock .entry)) (now (mask .entry)) (now (value .entry)) (now (words .entry)) in
-        ⌜ outcome r (held (now (mask .exit)) (now (value .exit))) ≡ hostRan (settleOf table (now (states .entry)) (now (nexts .entry))) ⌝ }
+        ⌜ outcome r (held (now (mask .exit)) (now (value .exit))) ≡ hostLeaves (settleOf table (now (states .entry)) (now (nexts .entry))) ⌝ }
     ensures settles { λ r.
         let table = lent (now (width .entry)) (now (lock .entry)) (now (mask .entry)) (now (value .entry)) (now (words .entry)) in
         let pairs = pairsOf (now (states .entry)) (now (nexts .entry)) in

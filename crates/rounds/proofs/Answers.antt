@@ -1,5 +1,5 @@
 -- What settle's checks give, passed or not, and what it then answers and leaves. Assumes nothing.
-use mathlib.Core.Path.{_≡_, refl, sym, _∙_, subst}
+use mathlib.Core.Path.{_≡_, sym, _∙_, subst}
 use mathlib.Core.Logic.{_≢_}
 use mathlib.Core.Bool.{not}
 use mathlib.Core.List.{List}
@@ -24,7 +24,7 @@ use Rattle.checks.proofs.Verdicts.{passed-append, passed-left, passed-right, pa
 use Rattle.checks.proofs.Accepts.{accepted-of-passed, passed-of-accepted}
 use Rattle.tables.specs.Run.{Ran, effectsAt, fullRun}
 use Rattle.tables.proofs.Fits.{effect-targets}
-use Rattle.tables.proofs.Leaving.{leaving-done, leaving-refused, leaving-claims}
+use Rattle.checks.proofs.Leaving.{leaving-done, leaving-refused, leaving-claims, Meets, meets}
 use Rattle.rounds.specs.Clock.{Pair, pairAt, pairsOf, roundsOf, lastStart}
 use Rattle.rounds.specs.Settle.{writtenRow, stateTwice, unevenFaults, pairFaults, eachPairChecks, pairChecks, settleChecks, settleOf, Settles}
 use Rattle.rounds.specs.Encoding.{PairsReady, SettleReady}
@@ -96,29 +96,25 @@ module _ (t : Table) (ss ns : List ℕ) where
   pub ready-of-answer : judged (settleChecks t ss ns) ≡ done tt → SettleReady t ss ns
   ready-of-answer e = ready-of-passed (passed-of-done (settleChecks t ss ns) tt tt e)
 
-  pub settle-refused : (n i : ℕ) → judged (settleChecks t ss ns) ≡ refused n i → _≡_ {A = Ran} (record { answer = refused n i; rows = startOf t }) (settleOf t ss ns)
+  pub settle-refused : (n i : ℕ) → judged (settleChecks t ss ns) ≡ refused n i → _≡_ {A = Ran} (record { answer = refused n i; left = startOf t }) (settleOf t ss ns)
   unfolding settleOf
-  settle-refused n i e = leaving-refused t _ (settleChecks t ss ns) (roundsOf t (pairsOf ss ns)) n i e
+  settle-refused n i e = leaving-refused (startOf t) _ (settleChecks t ss ns) (roundsOf t (pairsOf ss ns)) n i e
 
   pub settle-done : SettleReady t ss ns → (n : ℕ) → n ≡ roundsOf t (pairsOf ss ns) → (rows : State) → rows ≡ fullRun t (lastStart t (pairsOf ss ns))
-      → _≡_ {A = Ran} (record { answer = done n; rows = rows }) (settleOf t ss ns)
+      → _≡_ {A = Ran} (record { answer = done n; left = rows }) (settleOf t ss ns)
   unfolding settleOf settleChecks
   settle-done R n e rows f =
-      (λ ι. record { answer = done (e ι); rows = f ι })
-      ∙ leaving-done t (fullRun t (lastStart t (pairsOf ss ns))) (settleChecks t ss ns) (roundsOf t (pairsOf ss ns))
+      (λ ι. record { answer = done (e ι); left = f ι })
+      ∙ leaving-done (startOf t) (fullRun t (lastStart t (pairsOf ss ns))) (settleChecks t ss ns) (roundsOf t (pairsOf ss ns))
       (passed-append (runChecks t 0 (recordCount t)) (pairChecks t ss ns) (passed-of-accepted t 0 (recordCount t) (R .accepted)) (R .paired))
 
   -- ---- the claim, of every call that is answered
 
-  settles-of-answer : (n : ℕ) → settleOf t ss ns .answer ≡ done n → Settles t (pairsOf ss ns) n (settleOf t ss ns .rows)
+  settles-of-answer : (n : ℕ) → settleOf t ss ns .answer ≡ done n → Settles t (pairsOf ss ns) n (settleOf t ss ns .left)
   unfolding settleOf
   settles-of-answer =
-      leaving-claims t (fullRun t (lastStart t (pairsOf ss ns))) (settleChecks t ss ns) (roundsOf t (pairsOf ss ns)) (Settles t (pairsOf ss ns))
+      leaving-claims (startOf t) (fullRun t (lastStart t (pairsOf ss ns))) (settleChecks t ss ns) (roundsOf t (pairsOf ss ns)) (Settles t (pairsOf ss ns))
       (λ P. let R = ready-of-passed P in settles t (R .accepted) (pairsOf ss ns) (pairs-fit (R .paired)))
 
-  -- what the contract asks of an answer and the rows left
-  abbrev pub Meets : Ran → Type 0
-  Meets a = (a ≡ settleOf t ss ns) × ((n : ℕ) → a .answer ≡ done n → Settles t (pairsOf ss ns) n (a .rows))
-
-  pub meets : (a : Ran) → a ≡ settleOf t ss ns → Meets a
-  meets a e = subst Meets (sym e) (refl, settles-of-answer)
+  pub settle-meets : (a : Ran) → a ≡ settleOf t ss ns → Meets (settleOf t ss ns) (Settles t (pairsOf ss ns)) a
+  settle-meets = meets (settleOf t ss ns) (Settles t (pairsOf ss ns)) settles-of-answer

@@ -18,11 +18,11 @@ use Rattle.vectors.specs.Row.{Covers}
 use Rattle.vectors.specs.Hull.{Hull}
 use Rattle.operations.specs.Record.{widthAt, targetRows}
 use Rattle.operations.specs.Faults.{Fault, fault}
-use Rattle.checks.specs.Check.{done, Check, verdict, placed}
+use Rattle.checks.specs.Check.{done, leaving, Check, verdict, placed}
 use Rattle.checks.specs.Table.{State, rowAt, Table, startOf, withRows, recordCount, recordOf}
 use Rattle.checks.specs.Checks.{rowOutside, runChecks}
 use Rattle.steps.specs.States.{CoversState, InsideState}
-use Rattle.tables.specs.Run.{Ran, leaving, runOf, pointRows, fullRun, plainRun}
+use Rattle.tables.specs.Run.{Ran, runOf, pointRows, fullRun, plainRun}
 use Rattle.rounds.specs.Clock.{Pair, pairsOf, stateBits, roundStart, roundsOf, lastStart, plainClocks}
 
 -- ---- 20: "pair lists of unequal length, a pair outside the table or with unequal widths, a state row named twice, or one that is locked, is a record's target
@@ -80,7 +80,7 @@ settleChecks t ss ns = runChecks t 0 (recordCount t) ++ pairChecks t ss ns
 -- ---- the call: "The rows hold that last round", and "the answer, the number of rounds"
 
 unfoldable pub settleOf : Table → List ℕ → List ℕ → Ran
-settleOf t ss ns = leaving (verdict (settleChecks t ss ns) (roundsOf t (pairsOf ss ns))) t (fullRun t (lastStart t (pairsOf ss ns)))
+settleOf t ss ns = leaving (verdict (settleChecks t ss ns) (roundsOf t (pairsOf ss ns))) (startOf t) (fullRun t (lastStart t (pairsOf ss ns)))
 
 -- ---- the claim
 

@@ -1,4 +1,4 @@
-// The rows of a span, tested one after another: their widths, and their locks (02, request 11).
+// The rows of a span, tested one after another: their widths, and their marks (02, request 11).
 ghost use mathlib.Core.Path.{_≡_};
 ghost use Prim.Native.Nat.{_+_, _≤_};
 ghost use lib.Dec.{eqb};
@@ -22,14 +22,14 @@ pub fn span_fits(width: &[u8], base: usize, n: usize, w: u8) -> bool
     true
 }
 
-// Whether some row of a span is locked.
-pub fn span_locked(lock: &[u8], base: usize, n: usize) -> bool
-    requires { ⌜ base + n ≤ length (now lock) ⌝ }
-    ensures { λ r. ⌜ r ≡ someOf (λ i. eqb (getD (now (lock .entry)) i 0) 1) (span base n) ⌝ }
+// Whether some row of a span is marked by a 1: as locked (check 10), or as needed (02, request 13).
+pub fn span_marked(marks: &[u8], base: usize, n: usize) -> bool
+    requires { ⌜ base + n ≤ length (now marks) ⌝ }
+    ensures { λ r. ⌜ r ≡ someOf (λ i. eqb (getD (now (marks .entry)) i 0) 1) (span base n) ⌝ }
 {
     let mut i: usize = 0;
     while i < n {
-        if lock[base + i] == 1 {
+        if marks[base + i] == 1 {
             return true;
         }
         i += 1;

@@ -1,7 +1,6 @@
 -- The second pass over the record lines of a text. Assumes nothing.
 --   Filling, begin, more, done    the loop
 --   ends-in, no-row, no-outside   while a record is left, the next line is a record line with its LF
---   six                           the words of a record put one by one
 --   same-length, room             the slice keeps its length and has room for a record
 use mathlib.Core.Path.{_≡_, refl, sym, ap, ap₂, _∙_}
 use mathlib.Core.Bool.{true}
@@ -9,9 +8,8 @@ use mathlib.Core.Logic.{inl, inr}
 use mathlib.Core.List.{List, [], _∷_, _++_}
 use Prim.Native.Nat.{ℕ, _+_, _-_, _*_, _≤_, _<_}
 use native.Mathlib.Nat.{eq-or-lt-of-le}
-use native.Mathlib.Numerals.{towards-suc}
 use native.Mathlib.Omega.{arith}
-use lib.ListN.{length, take, drop, set, length-drop}
+use lib.ListN.{length, take, drop, length-drop}
 use lib.Seq.{sets, length-sets, take-all, take-at, drop-at, take-add, drop-drop, length-take-le}
 use Rattle.operations.specs.Limits.{recordWords}
 use Rattle.grammar.specs.Words.{lf, tab, Edition}
@@ -37,10 +35,6 @@ pub record Filling (ed : Edition) (text : List ℕ) (from at i k n : ℕ) (ws ws
 
 pub begin : (ed : Edition) (text : List ℕ) (from n : ℕ) (ws : List ℕ) → RecordsWait ed text from n ws → Filling ed text from from 0 0 n ws ws
 begin ed text from n ws h = record { index = omega arith; inside = h .inside; good = h .good; count = h .count; rest = refl; words-are = refl; few = omega arith }
-
--- the six words of a record, put one by one
-pub six : (l : List ℕ) (i a b c d e f : ℕ) → set (set (set (set (set (set l i a) (i + 1) b) (i + 2) c) (i + 3) d) (i + 4) e) (i + 5) f ≡ sets l i (a ∷ b ∷ c ∷ d ∷ e ∷ f ∷ [])
-six l i a b c d e f = simp towards-suc
 
 module _ {ed : Edition} {text : List ℕ} {from at i k n : ℕ} {ws ws′ : List ℕ} (s : Filling ed text from at i k n ws ws′) where
   pub same-length : length ws′ ≡ length ws

@@ -13,6 +13,7 @@ use lines::line::Found;
 use lines::line::line;
 use operations::RECORD_WORDS;
 use operations::Record;
+use operations::put_record;
 
 // The number of the first bad line, or 0 and the counts of row lines and record lines.
 pub struct Tally {
@@ -118,12 +119,7 @@ fn put_words(words: &mut [u32], at: usize, r: Record) -> usize
     requires { ⌜ Holds (now words) at (wordsOf r) ⌝ }
     ensures { λ end. ⌜ Put (now (words .entry)) (now (words .exit)) at end (wordsOf r) ⌝ }
 {
-    words[at] = r.kind;
-    words[at + 1] = r.t;
-    words[at + 2] = r.a;
-    words[at + 3] = r.b;
-    words[at + 4] = r.p;
-    words[at + 5] = r.c;
+    put_record(words, at, r);
     at + RECORD_WORDS
 }
 

@@ -4,31 +4,31 @@ use Prim.Native.Nat.{ℕ, suc, _-_, _≤_, _<_}
 use native.Mathlib.Nat.{add-sub-of-le, sub-self}
 use native.Mathlib.Omega.{arith}
 use Rattle.operations.proofs.Parts.{targets-distinct}
-use Rattle.checks.specs.Check.{Answer, done}
+use Rattle.checks.specs.Check.{Answer, done, leaving}
 use Rattle.checks.specs.Table.{State, Table, startOf, withRows, recordOf}
 use Rattle.checks.specs.Checks.{runChecks}
 use Rattle.checks.specs.Accepted.{TablePassed, Accepted}
 use Rattle.checks.proofs.Accepts.{accepted-of-passed, answer-of-accepted}
 use Rattle.steps.specs.Step.{after}
-use Rattle.tables.specs.Run.{effectsAt, programOf, Ran, leaving, runOf, pointRows, plainRun}
+use Rattle.tables.specs.Run.{effectsAt, programOf, Ran, runOf, pointRows, plainRun}
 use Rattle.tables.specs.Demand.{After, Demand3}
 use Rattle.steps.specs.States.{StateFits, CoversState, InsideState}
-use Rattle.tables.proofs.Leaving.{leaving-passed}
+use Rattle.checks.proofs.Leaving.{leaving-passed}
 use Rattle.tables.proofs.Fits.{FitProgram, effect-targets, effects-fit}
 use Rattle.tables.proofs.Points.{Stretch, stretch, after-fits}
 
 -- ---- run and acceptance
 
 pub ran-done : (t : Table) (first last : ℕ) → Accepted t first last
-    → runOf t first last ≡ record { answer = done last; rows = after (programOf t) first (last - first) (startOf t) }
+    → runOf t first last ≡ record { answer = done last; left = after (programOf t) first (last - first) (startOf t) }
 unfolding runOf
-ran-done t first last A = ap (λ (a : Answer ℕ). leaving a t (after (programOf t) first (last - first) (startOf t))) (answer-of-accepted t first last last A)
+ran-done t first last A = ap (λ (a : Answer ℕ). leaving a (startOf t) (after (programOf t) first (last - first) (startOf t))) (answer-of-accepted t first last last A)
 
 -- an answer that is a result shows acceptance
 pub accepted-of-run : (t : Table) (first last n : ℕ) → runOf t first last .answer ≡ done n → Accepted t first last
 unfolding runOf
 accepted-of-run t first last n e =
-    accepted-of-passed t first last (leaving-passed t (after (programOf t) first (last - first) (startOf t)) (runChecks t first last) last n e)
+    accepted-of-passed t first last (leaving-passed (startOf t) (after (programOf t) first (last - first) (startOf t)) (runChecks t first last) last n e)
 
 -- ---- what an accepted table gives
 
@@ -75,7 +75,7 @@ module _ (t : Table) (first last : ℕ) (A : Accepted t first last) where
 
   -- the rows at a point, of the run from the start rows or from others, are those after that many records
   pub at-point : (rows : State) → StateFits (t .widths) rows → (s : ℕ) → first ≤ s → s ≤ last → pointRows (withRows t rows) first s ≡ after (programOf t) first (s - first) rows
-  at-point rows S s h l = ap (λ (r : Ran). r .rows) (ran-done (withRows t rows) first s (accepted-with t first last A rows S s h l))
+  at-point rows S s h l = ap (λ (r : Ran). r .left) (ran-done (withRows t rows) first s (accepted-with t first last A rows S s h l))
 
   formed : (s : ℕ) → first ≤ s → s ≤ last → StateFits (t .widths) (pointRows t first s)
   formed s h l = subst (StateFits (t .widths)) (sym (at-point (startOf t) fits s h l)) (after-fits (programOf t) first (startOf t) fits (s - first))

@@ -3,7 +3,6 @@ pub mod Fits
 pub mod PutAll
 pub mod Steps
 pub mod Points
-pub mod Leaving
 pub mod Demand3
 pub mod Counts
 pub mod Lists

@@ -70,6 +70,10 @@ module _ {A : Type 0} (t : A → ℕ) (h : A → ℕ) where
   numbers-other [] ns i d = refl
   numbers-other (a ∷ l) ns i d = numbers-other l (set ns (t a) (h a)) i (d .1) ∙ getD-set-other ns (t a) i (h a) 0 (λ p. d .0 (sym p))
 
+  pub numbers-length : (l : List A) (ns : List ℕ) → length (setAll t h l ns) ≡ length ns
+  numbers-length [] ns = refl
+  numbers-length (a ∷ l) ns = numbers-length l (set ns (t a) (h a)) ∙ length-set ns (t a) (h a)
+
   pub numbers-all : (l : List A) (ns : List ℕ) → All (λ a. t a < length ns) l → Distinct (map t l) → All (λ a. getD (setAll t h l ns) (t a) 0 ≡ h a) l
   numbers-all [] ns N D = tt
   numbers-all (a ∷ l) ns N D = (

@@ -19,7 +19,7 @@ use Rattle.steps.specs.Step.{operandRows, operandNumbers, result, step, plainSt
 use Rattle.tables.specs.Demand.{After}
 use Rattle.steps.specs.States.{StateFits, CoversState, InsideState}
 use Rattle.tables.proofs.Fits.{Fit, FitRecord}
-use Rattle.tables.proofs.PutAll.{FitPut, fits-all, others-all, targets-all, covers-all, inside-all, numbers-other, numbers-all}
+use Rattle.tables.proofs.PutAll.{FitPut, fits-all, others-all, targets-all, covers-all, inside-all, numbers-length, numbers-other, numbers-all}
 
 -- what the covered operands' numbers are below
 pub chosen-below : (widths : List ℕ) (s : State) (is ns : List ℕ) → Chosen (map (rowAt widths s) is) ns → Below (map (widthAt widths) is) ns
@@ -80,6 +80,10 @@ module _ (widths : List ℕ) where
   unfolding plainStep
   plain-targets es R ns c =
       numbers-all (λ e. e .target) (λ e. e .value (operandNumbers ns e)) es ns (all-imp (λ e F. subst (λ (m : ℕ). e .target < m) (sym c) (F .target-in)) es (R .fit)) (R .distinct)
+
+pub plain-length : (es : List Effect) (ns : List ℕ) → length (plainStep es ns) ≡ length ns
+unfolding plainStep
+plain-length es ns = numbers-length (λ e. e .target) (λ e. e .value (operandNumbers ns e)) es ns
 
 pub plain-others : (es : List Effect) (ns : List ℕ) (i : ℕ) → All (λ e. e .target ≢ i) es → getD (plainStep es ns) i 0 ≡ getD ns i 0
 unfolding plainStep

@@ -20,4 +20,4 @@ runModel (Done last) = done last
 runModel (NotRun r) = refused (r .number) (r .place)
 
 abbrev pub ran : RunAnswer → List ℕ → List ℕ → Ran
-ran r masks values = record { answer = runModel r; rows = held masks values }
+ran r masks values = record { answer = runModel r; left = held masks values }

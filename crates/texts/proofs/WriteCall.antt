@@ -15,7 +15,7 @@ use lib.Seq.{sets-eq}
 use borrow.Author.Tests.{lt-ltb}
 use Rattle.bits.specs.Limits.{widthLimit}
 use Rattle.operations.specs.Faults.{fault}
-use Rattle.checks.specs.Check.{Answer, done, refused, verdict, placed}
+use Rattle.checks.specs.Check.{Answer, done, refused, leaving, verdict, placed}
 use Rattle.checks.specs.Table.{Table}
 use Rattle.checks.specs.Checks.{sizeChecks}
 use Rattle.checks.specs.Accepted.{TablePassed}
@@ -29,7 +29,7 @@ use Rattle.grammar.specs.Limits.{textLimit}
 use Rattle.grammar.specs.Lists.{filled}
 use Rattle.grammar.specs.Words.{header3}
 use Rattle.grammar.specs.Print.{linesText, rowLines, recordLines, tableLines, textOf}
-use Rattle.texts.specs.Calls.{sizeOf, bufferShort, writeChecks, writtenAs, writeOf}
+use Rattle.texts.specs.Calls.{sizeOf, bufferShort, writeChecks, writeOf}
 use Rattle.grammar.proofs.RecordLines.{words-length}
 use Rattle.grammar.proofs.Sizes.{lines-append, text-length, rows-size, records-size}
 use Rattle.texts.specs.Model.{bytesModel}
@@ -74,18 +74,18 @@ module _ (t : Table) (v : Verdict) (found : verdictModel v ≡ judged (sizeCheck
 
 -- ---- write, by the answer a of size
 
-pub written : (t : Table) (out : List ℕ) → TablePassed t → length (textOf t) ≤ length out → writeOf t out ≡ record { answer = done (length (textOf t)); buffer = filled (textOf t) out }
+pub written : (t : Table) (out : List ℕ) → TablePassed t → length (textOf t) ≤ length out → writeOf t out ≡ record { answer = done (length (textOf t)); left = filled (textOf t) out }
 unfolding writeOf writeChecks
 written t out P h =
-    ap (λ (a : Answer ℕ). writtenAs a t out)
+    ap (λ (a : Answer ℕ). leaving a out (filled (textOf t) out))
     (done-of-passed (writeChecks t (length out)) (length (textOf t))
     (passed-append (sizeChecks t) (placed 0 (fault (bufferShort t (length out)) 14 ∷ [])) (passed-of-table t P) (le→nltb (length out) (length (textOf t)) h, tt)))
 
 module _ (t : Table) (out : List ℕ) (a : BytesAnswer) (found : bytesModel a ≡ sizeOf t) where
-  pub write-refused : (r : Refusal) → a ≡ NotBytes r → record { answer = refused (r .number) (r .place); buffer = out } ≡ writeOf t out
+  pub write-refused : (r : Refusal) → a ≡ NotBytes r → record { answer = refused (r .number) (r .place); left = out } ≡ writeOf t out
   unfolding sizeOf writeOf writeChecks
   write-refused r e =
-      sym (ap (λ (x : Answer ℕ). writtenAs x t out)
+      sym (ap (λ (x : Answer ℕ). leaving x out (filled (textOf t) out))
       (verdict-refused (sizeChecks t) (placed 0 (fault (bufferShort t (length out)) 14 ∷ [])) (length (textOf t)) (length (textOf t)) (r .number) (r .place) (sym found ∙ ap bytesModel e)))
 
   module _ (n : ℕ) (is : a ≡ Bytes n) where
@@ -100,12 +100,12 @@ module _ (t : Table) (out : List ℕ) (a : BytesAnswer) (found : bytesModel a �
         let m : n ≡ length (textOf t) = cc in
         (P, m)
 
-    pub write-short : length out < n → record { answer = refused 14 0; buffer = out } ≡ writeOf t out
+    pub write-short : length out < n → record { answer = refused 14 0; left = out } ≡ writeOf t out
     unfolding writeOf writeChecks verdict
     write-short h =
         let last = placed 0 (fault (bufferShort t (length out)) 14 ∷ []) in
         let m : n ≡ length (textOf t) = size-is .1 in
-        sym (ap (λ (a : Answer ℕ). writtenAs a t out)
+        sym (ap (λ (a : Answer ℕ). leaving a out (filled (textOf t) out))
         (verdict-passed (sizeChecks t) last (length (textOf t)) (passed-of-table t (size-is .0))
         ∙ ap (λ (b : Bool). cond b (refused 14 0) (done (length (textOf t)))) (lt-ltb (length out) (length (textOf t)) (omega arith))))
 
@@ -136,7 +136,7 @@ module _ (t : Table) (out : List ℕ) (a : BytesAnswer) (found : bytesModel a �
           pub records-room : Holds mid at (linesText (recordLines t))
           records-room = omega (arith, long, text-length t, h .ends, put-length h, p .ends, put-length p)
 
-          pub write-done : {new : List ℕ} {end : ℕ} → Put mid new at end (linesText (recordLines t)) → record { answer = done end; buffer = new } ≡ writeOf t out
+          pub write-done : {new : List ℕ} {end : ℕ} → Put mid new at end (linesText (recordLines t)) → record { answer = done end; left = new } ≡ writeOf t out
           write-done {new} {end} q =
               let rows = linesText (rowLines t) in
               let records = linesText (recordLines t) in
@@ -145,4 +145,4 @@ module _ (t : Table) (out : List ℕ) (a : BytesAnswer) (found : bytesModel a �
               let end-is : end ≡ length (textOf t) = w .ends ∙ zero-add (length (textOf t)) in
               let new-is : new ≡ filled (textOf t) out =
               w .text ∙ sets-eq (textOf t) out 0 (omega (arith, long)) ∙ ap (λ (k : ℕ). textOf t ++ drop k out) (zero-add (length (textOf t))) in
-              (λ i. record { answer = done (end-is i); buffer = new-is i }) ∙ sym (written t out (size-is .0) long)
+              (λ i. record { answer = done (end-is i); left = new-is i }) ∙ sym (written t out (size-is .0) long)

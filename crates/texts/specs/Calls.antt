@@ -1,7 +1,7 @@
 -- What size, write and read answer and leave (01, "Calls" and "Who can cause a refusal"; 02, request 1, for size and 14).
 --   sizeOf t                     size's answer
 --   bufferShort t room           the condition of 14;   writeChecks t room   what write refuses, in order
---   Written, writeOf t out       write's answer, and the buffer that it leaves;   writtenAs   these of a verdict of write's checks
+--   Written, writeOf t out       write's answer, and the buffer that it leaves
 --   lentChecks, lengthChecks, lineChecks, roomChecks   2, 11, 12 and 13 of read
 --   textOver, rowsExceed, wordsExceed   the conditions of 11 and 13;   badLine text   the first bad line, from 1, or 0
 --   readChecks text lent         what read refuses, in order
@@ -16,7 +16,7 @@ use lib.Dec.{ltb, eqb}
 use lib.ListN.{length, take}
 use Rattle.operations.specs.Limits.{recordWords}
 use Rattle.operations.specs.Faults.{fault}
-use Rattle.checks.specs.Check.{Answer, done, refused, Check, verdict, placed}
+use Rattle.checks.specs.Check.{Answer, done, refused, Leaves, leaving, Check, verdict, placed}
 use Rattle.checks.specs.Table.{Table, recordCount}
 use Rattle.checks.specs.Checks.{sizeChecks, locksDiffer, masksDiffer, valuesDiffer}
 use Rattle.grammar.specs.Limits.{textLimit}
@@ -28,9 +28,8 @@ use Rattle.grammar.specs.Lines.{opening, linesIn, firstBad, tableRead}
 unfoldable pub sizeOf : Table → Answer ℕ
 sizeOf t = verdict (sizeChecks t) (length (textOf t))
 
-pub record Written : Type 0 where
-  pub answer : Answer ℕ
-  pub buffer : List ℕ
+abbrev pub Written : Type 0
+Written = Leaves (List ℕ)
 
 -- "Refusal 14 is then given if the buffer is shorter than the text itself." (02, request 1)
 abbrev pub bufferShort : Table → ℕ → Bool
@@ -41,12 +40,8 @@ unfoldable pub writeChecks : Table → ℕ → List Check
 writeChecks t room = sizeChecks t ++ placed 0 (fault (bufferShort t room) 14 ∷ [])
 
 -- "Write answers the text's byte count and leaves the buffer's rest."
-abbrev pub writtenAs : Answer ℕ → Table → List ℕ → Written
-writtenAs (done n) t out = record { answer = done n; buffer = filled (textOf t) out }
-writtenAs (refused number place) t out = record { answer = refused number place; buffer = out }
-
 unfoldable pub writeOf : Table → List ℕ → Written
-writeOf t out = writtenAs (verdict (writeChecks t (length out)) (length (textOf t))) t out
+writeOf t out = leaving (verdict (writeChecks t (length out)) (length (textOf t))) out (filled (textOf t) out)
 
 -- ---- read
 

@@ -16,7 +16,7 @@ bytesModel (Bytes n) = done n
 bytesModel (NotBytes r) = refused (r .number) (r .place)
 
 abbrev pub writeLeft : BytesAnswer → List ℕ → Written
-writeLeft r out = record { answer = bytesModel r; buffer = out }
+writeLeft r out = record { answer = bytesModel r; left = out }
 
 abbrev pub readModel : ReadAnswer → Answer Counts
 readModel (Read rows records) = done (record { rows = rows; records = records })

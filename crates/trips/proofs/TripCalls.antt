@@ -45,10 +45,10 @@ module _ (t : Table) (out : List ℕ) (a : BytesAnswer) {new : List ℕ} (found 
         let left = written t out (P .0) (P .1) in
         let count : done n ≡ done (length (textOf t)) = sym answered ∙ ap (λ (x : Written). x .answer) left in
         let m : n ≡ length (textOf t) = cc in
-        omega (arith, ap (λ (x : Written). length (x .buffer)) (found ∙ left), length-append (textOf t) (drop (length (textOf t)) out))
+        omega (arith, ap (λ (x : Written). length (x .left)) (found ∙ left), length-append (textOf t) (drop (length (textOf t)) out))
 
     pub table-trip : (lent : Table) (got : ReadBack) → got ≡ readOf (take n new) lent → TableBack t out lent got
-    table-trip lent got g k w R = g ∙ ap (λ (x : Written). readOf (take n (x .buffer)) lent) found ∙ table-back t out lent n answered k w R
+    table-trip lent got g k w R = g ∙ ap (λ (x : Written). readOf (take n (x .left)) lent) found ∙ table-back t out lent n answered k w R
 
 -- ---- read, then written
 
@@ -72,4 +72,4 @@ module _ (text : List ℕ) (lent : Table) (a : ReadAnswer) {new : Table} (found 
 
 -- a text of edition 3 is its own form
 pub bytes-trip : (text : List ℕ) (lent : Table) (out : List ℕ) (got : Written) → FormBack text lent out got → BytesBack text lent out got
-bytes-trip text lent out got h third c w n v = h c w n v ∙ ap (λ (x : List ℕ). record { answer = done (length x); buffer = filled x out }) (form-same text third)
+bytes-trip text lent out got h third c w n v = h c w n v ∙ ap (λ (x : List ℕ). record { answer = done (length x); left = filled x out }) (form-same text third)

@@ -31,7 +31,7 @@ TableBack t out lent got = (n : ℕ) → writeOf t out .answer ≡ done n → Ro
 abbrev pub Back : List ℕ → List ℕ → Table → List ℕ → Written → Type 0
 Back bytes text lent out got =
     (c : Counts) → readOf text lent .answer ≡ done c → (n : ℕ) → writeOf (firstOf c (readOf text lent .slices)) out .answer ≡ done n
-    → got ≡ record { answer = done (length bytes); buffer = filled bytes out }
+    → got ≡ record { answer = done (length bytes); left = filled bytes out }
 
 -- "the writer prints that with its header .. and older ones are read only" (02, request 11)
 abbrev pub FormBack : List ℕ → Table → List ℕ → Written → Type 0

@@ -3,8 +3,11 @@ use mathlib.Core.Path.{_≡_, refl, sym, ap, subst}
 use mathlib.Core.Bool.{Bool, true, false, not, _&&_, _||_}
 use mathlib.Core.Logic.{inl, inr}
 use mathlib.Core.List.{List, [], _∷_, map, List·Memᴰ, List·Memᴰ·not-nil, List·Memᴰ·cases-cons}
+use Prim.Native.Nat.{ℕ, zero, suc, _<_}
+use native.Mathlib.Omega.{arith}
 use lib.Dec.{T}
-use Rattle.bits.proofs.Bools.{T-and, T-left, T-right}
+use lib.ListN.{length, getD}
+use Rattle.bits.proofs.Bools.{T-and, T-left, T-right, T-inl, T-inr, T-or}
 use Rattle.vectors.specs.Lists.{All, Pointwise, allOf, someOf}
 
 -- what holds of each element, written in a row
@@ -43,6 +46,11 @@ all-member P (b ∷ l) q d = elim (List·Memᴰ·cases-cons d) [ inl e ↦ subst
 pub pointwise-map : {A B C : Type 0} {Q : A → Type 0} (R : B → C → Type 0) (g : A → B) (g′ : A → C) → ((a : A) → Q a → R (g a) (g′ a)) → (l : List A) → All Q l → Pointwise R (map g l) (map g′ l)
 pointwise-map R g g′ h [] q = tt
 pointwise-map R g g′ h (a ∷ l) q = (h a (q .0), pointwise-map R g g′ h l (q .1))
+
+pub all-getD : {A : Type 0} (P : A → Type 0) (l : List A) (d : A) → All P l → (i : ℕ) → i < length l → P (getD l i d)
+all-getD P [] d q i h = absurd (omega arith)
+all-getD P (a ∷ l) d q zero h = q .0
+all-getD P (a ∷ l) d q (suc i) h = all-getD P l d (q .1) i (omega arith)
 
 -- ---- tests
 
@@ -84,3 +92,20 @@ pub all-none : {A : Type 0} (p : A → Bool) (l : List A) → All (λ a. T (not 
 unfolding someOf
 all-none p [] q = tt
 all-none p (a ∷ l) q = not-either (p a) (someOf p l) (q .0) (all-none p l (q .1))
+
+pub someOf-mapped : {A B : Type 0} (p : B → Bool) (f : A → B) (l : List A) → someOf p (map f l) ≡ someOf (λ a. p (f a)) l
+unfolding someOf
+someOf-mapped p f [] = refl
+someOf-mapped p f (a ∷ l) = ap (λ (b : Bool). p (f a) || b) (someOf-mapped p f l)
+
+-- what follows from an element that passes follows where some element does
+pub some-any : {A X : Type 0} (p : A → Bool) (l : List A) → ((a : A) → T (p a) → X) → T (someOf p l) → X
+unfolding someOf
+some-any p [] f t = absurd t
+some-any p (a ∷ l) f t = elim (T-or (p a) (someOf p l) t) [ inl u ↦ f a u | inr u ↦ some-any p l f u ]
+
+-- a test that passes where another does
+pub some-imp : {A : Type 0} (p q : A → Bool) (l : List A) → ((a : A) → T (p a) → T (q a)) → T (someOf p l) → T (someOf q l)
+unfolding someOf
+some-imp p q [] f t = t
+some-imp p q (a ∷ l) f t = elim (T-or (p a) (someOf p l) t) [ inl u ↦ T-inl (q a) (someOf q l) (f a u) | inr u ↦ T-inr (q a) (someOf q l) (some-imp p q l f u) ]

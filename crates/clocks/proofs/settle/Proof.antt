@@ -5,7 +5,7 @@ use Rattle.checks.specs.Table.{Table}
 use Rattle.checks.specs.Model.{lent, verdictModel}
 use Rattle.steps.proofs.Rooms.{room-for}
 use Rattle.rounds.specs.Encoding.{SettleReady}
-use Rattle.rounds.proofs.Answers.{ready-of-answer, settle-refused, settle-done, meets}
+use Rattle.rounds.proofs.Answers.{ready-of-answer, settle-refused, settle-done, settle-meets}
 use borrow.Author.Needs.{needs}
 use Rattle.clocks.proofs.settle.Statement.{statement}
 use Rattle.clocks.proofs.settle.Tie as tie
@@ -20,7 +20,7 @@ returns : tie.Need-returns
 returns c =
     let d = c .before .before .before in
     let s = start d in
-    meets (table s) (s .args .states .now) (s .args .nexts .now) _
+    settle-meets (table s) (s .args .states .now) (s .args .nexts .now) _
     (settle-refused (table s) (s .args .states .now) (s .args .nexts .now) _ _ (sym (d .check-settle .ensures) ∙ ap verdictModel (c .before .r .given .1)))
 
 -- the checks passed
@@ -43,7 +43,7 @@ returns-2 c =
     let g = c .before .before .before .before .before .before in
     let t = g .before .before .before .before .before .before .before in
     let s = start (t .before .before) in
-    meets (table s) (s .args .states .now) (s .args .nexts .now) _
+    settle-meets (table s) (s .args .states .now) (s .args .nexts .now) _
     (settle-done (table s) (s .args .states .now) (s .args .nexts .now) (ready t) _ (g .settle-in .ensures .0) _ (g .settle-in .ensures .1))
 
 pub settle-spec : {M : Type 1} → statement M

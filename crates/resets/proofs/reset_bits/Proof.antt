@@ -3,7 +3,7 @@ use mathlib.Core.Path.{refl, sym, ap, _∙_}
 use Rattle.checks.specs.Table.{Table}
 use Rattle.checks.specs.Model.{lent, verdictModel}
 use Rattle.conclusions.specs.Encoding.{Named}
-use Rattle.conclusions.proofs.Answers.{named-of-answer, naming-refused, meets}
+use Rattle.conclusions.proofs.Answers.{named-of-answer, naming-refused, reset-meets}
 use Rattle.steps.proofs.Rooms.{room-for}
 use borrow.Author.Needs.{needs}
 use Rattle.resets.proofs.reset_bits.Statement.{statement}
@@ -19,7 +19,7 @@ returns : tie.Need-returns
 returns c =
     let d = c .before .before .before in
     let s = start d in
-    meets (table s) (s .args .row) (s .args .bit) _
+    reset-meets (table s) (s .args .row) (s .args .bit) _
     (naming-refused (table s) (s .args .row) (s .args .bit) _ _ (sym (d .check-naming .ensures) ∙ ap verdictModel (c .before .r .given .1)))
 
 -- the checks passed
@@ -38,7 +38,7 @@ returns-2 : tie.Need-returns-2
 returns-2 c =
     let g = c .before .before .before .before .before .before in
     let s = start (g .before .before .before .before .before .before .before) in
-    meets (table s) (s .args .row) (s .args .bit) _ (g .reset-in .ensures)
+    reset-meets (table s) (s .args .row) (s .args .bit) _ (g .reset-in .ensures)
 
 pub reset-bits-spec : {M : Type 1} → statement M
 reset-bits-spec =

@@ -10,13 +10,13 @@ returns : tie.Need-returns
 returns c =
     let l = c .before .before in
     let a = l .before .before .before .args in
-    c .refuse .ensures ∙ sym (lock-refused (a .locked) (a .lock .now) (wordsOf (a .r)) (a .i) (l .before .if1 .taken) (sym (l .target-locked .ensures) ∙ c .before .if2 .taken))
+    c .refuse .ensures ∙ sym (lock-refused (a .locked) (a .lock .now) (wordsOf (a .r)) (a .i) (l .before .if1 .taken) (sym (l .target-marked .ensures) ∙ c .before .if2 .taken))
 
 returns-2 : tie.Need-returns-2
 returns-2 c =
     let l = c .before in
     let a = l .before .before .before .args in
-    sym (lock-open (a .locked) (a .lock .now) (wordsOf (a .r)) (a .i) (l .before .if1 .taken) (sym (l .target-locked .ensures) ∙ c .if2 .left))
+    sym (lock-open (a .locked) (a .lock .now) (wordsOf (a .r)) (a .i) (l .before .if1 .taken) (sym (l .target-marked .ensures) ∙ c .if2 .left))
 
 returns-3 : tie.Need-returns-3
 returns-3 c = let a = c .before .before .args in sym (lock-unasked (a .locked) (a .lock .now) (wordsOf (a .r)) (a .i) (c .if1 .left))

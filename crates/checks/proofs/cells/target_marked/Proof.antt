@@ -1,4 +1,4 @@
--- `checks::cells::target_locked` meets its contract: the cells of a store, the row t of any other kind. Assumes nothing.
+-- `checks::cells::target_marked` meets its contract: the cells of a store, the row t of any other kind. Assumes nothing.
 use mathlib.Core.Path.{_≡_, sym, ap, subst, _∙_}
 use mathlib.Core.Bool.{not}
 use Prim.Native.Nat.{ℕ}
@@ -12,8 +12,8 @@ use Rattle.operations.specs.Memory.{span}
 use Rattle.operations.proofs.Sound.{only-store}
 use Rattle.checks.proofs.Memory.{store-targets, row-targets}
 use borrow.Author.Needs.{needs}
-use Rattle.checks.proofs.cells.target_locked.Statement.{statement}
-use Rattle.checks.proofs.cells.target_locked.Tie as tie
+use Rattle.checks.proofs.cells.target_marked.Statement.{statement}
+use Rattle.checks.proofs.cells.target_marked.Tie as tie
 
 -- a store has no row t
 no-row : (k : ℕ) → k ≡ 25 → T (not (isRow (kindOf k .use-t)))
@@ -23,7 +23,7 @@ no-row k e = subst (λ (m : ℕ). T (not (isRow (kindOf m .use-t)))) (sym e) tt
 abbrev start : tie.After-struct-known → tie.Start
 start c = c .before .before
 
-within : tie.Need-span-locked-requires
+within : tie.Need-span-marked-requires
 within c κs =
     let t = c .before .before in
     let s = start (t .before) in
@@ -45,20 +45,20 @@ returns c =
     let i = c .before in
     let t = i .before .before in
     let a = start (t .before) .args in
-    c .span-locked .ensures
-    ∙ (λ ι. someOf (λ j. eqb (getD (a .lock .now) j 0) 1) (span (i .before .index .ensures ι) (i .index2 .ensures ι)))
-    ∙ sym (store-targets (λ j. eqb (getD (a .lock .now) j 0) 1) (a .r) (t .if1 .taken))
+    c .span-marked .ensures
+    ∙ (λ ι. someOf (λ j. eqb (getD (a .marks .now) j 0) 1) (span (i .before .index .ensures ι) (i .index2 .ensures ι)))
+    ∙ sym (store-targets (λ j. eqb (getD (a .marks .now) j 0) 1) (a .r) (t .if1 .taken))
 
 returns-2 : tie.Need-returns-2
 returns-2 c =
     let i = c .before in
     let s = start (i .before .before) in
     let a = s .args in
-    ap (λ (j : ℕ). eqb (getD (a .lock .now) j 0) 1) (i .index3 .ensures)
-    ∙ sym (row-targets (λ j. eqb (getD (a .lock .now) j 0) 1) (a .r) (only-store (a .r .kind) (s .pre .0) (i .before .if1 .left)))
+    ap (λ (j : ℕ). eqb (getD (a .marks .now) j 0) 1) (i .index3 .ensures)
+    ∙ sym (row-targets (λ j. eqb (getD (a .marks .now) j 0) 1) (a .r) (only-store (a .r .kind) (s .pre .0) (i .before .if1 .left)))
 
-pub target-locked-spec : {M : Type 1} → statement M
-target-locked-spec =
+pub target-marked-spec : {M : Type 1} → statement M
+target-marked-spec =
     tie.close
     (tie.spec
     (λ c κs. search needs)

@@ -1,11 +1,10 @@
--- `table_lines::fill::put_words`: six words, one after another. Assumes nothing.
-use mathlib.Core.Path.{refl}
+-- `operations::put_record` meets its contract: six words, one after another. Assumes nothing.
 use native.Mathlib.Omega.{arith}
 use lib.ListN.{length-set}
-use Rattle.table_lines.proofs.FillRecords.{six}
+use Rattle.operations.proofs.SixWords.{six}
 use borrow.Author.Needs.{needs}
-use Rattle.table_lines.proofs.fill.put_words.Statement.{statement}
-use Rattle.table_lines.proofs.fill.put_words.Tie as tie
+use Rattle.operations.proofs.put_record.Statement.{statement}
+use Rattle.operations.proofs.put_record.Tie as tie
 
 mul-words : tie.Need-mul-words
 mul-words c = search needs
@@ -58,17 +57,14 @@ mul-words-6 c = search needs
 slice-write-words-6 : tie.Need-slice-write-words-6
 slice-write-words-6 c = simp length-set (omega arith)
 
-add-result : tie.Need-add-result
-add-result c = search needs
-
 same-length : tie.Need-same-length
 same-length c = search needs
 
 returns : tie.Need-returns
-returns c = let r = c .args .r in record { ends = refl; text = six (c .args .words .now) (c .args .at) (r .kind) (r .t) (r .a) (r .b) (r .p) (r .c) }
+returns c = let r = c .args .r in six (c .args .words .now) (c .args .at) (r .kind) (r .t) (r .a) (r .b) (r .p) (r .c)
 
-pub put-words-spec : {M : Type 1} → statement M
-put-words-spec =
+pub put-record-spec : {M : Type 1} → statement M
+put-record-spec =
     tie.close
     (tie.spec
     mul-words
@@ -88,6 +84,5 @@ put-words-spec =
     add-words-5
     mul-words-6
     slice-write-words-6
-    add-result
     same-length
     returns)

@@ -1,0 +1,7 @@
+-- The laws and proofs of `needs`.
+pub mod Walks
+pub mod Rules
+pub mod KeptRuns
+pub mod Answers
+pub mod Marks
+pub mod Taken

@@ -1,0 +1,3 @@
+-- The laws and proofs of `pruning`.
+pub mod BackTurns
+pub mod MovedWords

@@ -1,0 +1,2 @@
+-- The definitions of `pruning`.
+pub mod Model
