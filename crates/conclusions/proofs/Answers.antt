@@ -6,12 +6,11 @@ use mathlib.Core.List.{List, [], _++_}
 use Prim.Native.Nat.{ℕ}
 use native.Mathlib.Omega.{arith}
 use lib.Dec.{T, T-not, nleb→lt}
-use lib.ListN.{length}
 use Rattle.bits.specs.Bit.{bit, isSet}
 use Rattle.bits.proofs.Bits.{bit-lt, bit-cases}
 use Rattle.bits.proofs.Numbers.{isSet-true, isSet-false}
 use Rattle.operations.specs.Record.{widthAt}
-use Rattle.checks.specs.Check.{done, refused, Check, verdict, placed, Passed}
+use Rattle.checks.specs.Check.{done, refused, Check, placed, Passed}
 use Rattle.checks.specs.Table.{State, Table, startOf, recordCount}
 use Rattle.checks.specs.Checks.{bitFaults, rowNamedFaults, runChecks}
 use Rattle.checks.specs.Model.{judged}

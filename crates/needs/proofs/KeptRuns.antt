@@ -3,7 +3,7 @@ use mathlib.Core.Path.{_≡_, refl, sym, ap, _∙_, subst}
 use mathlib.Core.Bool.{Bool}
 use mathlib.Core.Logic.{_≢_}
 use mathlib.Core.List.{List, [], _∷_, _++_}
-use Prim.Native.Nat.{ℕ, zero, suc, _+_, _-_, _*_, _/_, _≤_, _<_}
+use Prim.Native.Nat.{ℕ, zero, suc, _+_, _-_, _*_, _≤_, _<_}
 use native.Mathlib.Nat.{zero-add, sub-zero}
 use native.Mathlib.Omega.{arith}
 use lib.Dec.{T}
@@ -13,18 +13,17 @@ use Rattle.vectors.specs.Lists.{All}
 use Rattle.vectors.specs.Best.{best}
 use Rattle.vectors.proofs.Lists.{all-getD}
 use Rattle.operations.specs.Limits.{recordWords}
-use Rattle.operations.specs.Record.{Effect, widthAt, targetRows, effectsOf}
-use Rattle.checks.specs.Check.{done}
-use Rattle.checks.specs.Table.{State, rowAt, Table, startOf, withRows, recordCount, recordOf}
+use Rattle.operations.specs.Record.{widthAt, targetRows, effectsOf}
+use Rattle.checks.specs.Table.{State, rowAt, Table, recordCount, recordOf}
 use Rattle.checks.specs.Accepted.{RecordPassed, Accepted}
 use Rattle.checks.proofs.Words.{record-length}
 use Rattle.steps.specs.Step.{Program, step, plainStep, after, plainAfter}
 use Rattle.steps.specs.States.{StateFits}
-use Rattle.tables.specs.Run.{effectsAt, programOf, fullRun, plainRun, runOf}
+use Rattle.tables.specs.Run.{effectsAt, programOf, fullRun, plainRun}
 use Rattle.tables.proofs.Fits.{FitRecord, FitProgram}
 use Rattle.tables.proofs.Steps.{step-fits, step-targets, step-others, plain-length, plain-targets, plain-others}
-use Rattle.tables.proofs.Demand3.{start-fits, program-fits}
-use Rattle.tables.proofs.FullRuns.{full-after, full-demand3}
+use Rattle.tables.proofs.Demand3.{program-fits}
+use Rattle.tables.proofs.FullRuns.{full-after}
 use Rattle.needs.specs.Needs.{keptAmong}
 use Rattle.needs.specs.Effects.{keptBy}
 use Rattle.needs.specs.Prune.{wordsKept}
@@ -85,7 +84,7 @@ module _ (t : Table) (need : ℕ → Bool) (A : Accepted t 0 (recordCount t)) wh
   by-effects : kept ≡ keptBy (effectsAt t) (recordCount t) need
   by-effects = kept-same t (λ i h. A .table .record-passed i h .kind-known) (recordCount t) (omega arith) need
 
-  pub short-below : All (λ i. i < recordCount t) kept
+  short-below : All (λ i. i < recordCount t) kept
   short-below = subst (All (λ i. i < recordCount t)) (sym by-effects) (kept-below (effectsAt t) (recordCount t) need (recordCount t) (omega arith))
 
   pub short-fewer : length kept ≤ recordCount t

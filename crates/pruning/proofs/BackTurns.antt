@@ -6,7 +6,6 @@ use mathlib.Core.List.{List, [], _∷_, _++_, append-assoc, append-nil}
 use Prim.Native.Nat.{ℕ, suc, _+_, _-_, _*_, _/_, _≤_, _<_}
 use native.Mathlib.Nat.{div-add-mod'}
 use native.Mathlib.Omega.{arith}
-use lib.Dec.{T}
 use lib.ListN.{length, take, drop, drop-of-length-le}
 use lib.Seq.{length-take-le, take-take, take-append-le, drop-at, sets, length-sets, sets-eq}
 use Rattle.operations.specs.Limits.{recordWords}
@@ -18,7 +17,8 @@ use Rattle.tables.proofs.Lists.{inside-part}
 use Rattle.needs.specs.Needs.{marked, stays, needBefore, keptAmong, keptOf}
 use Rattle.needs.specs.Prune.{wordsKept}
 use Rattle.needs.specs.Encoding.{needsBefore, ZeroOrOne, RowsIn, RecordsIn}
-use Rattle.needs.proofs.Marks.{before-length, before-bytes, before-marked}
+use Rattle.needs.proofs.Marks.{before-length, before-bytes}
+use Rattle.needs.proofs.RowWords.{before-marked}
 
 -- ---- a record put
 

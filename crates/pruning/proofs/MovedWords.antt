@@ -33,7 +33,7 @@ pub record Moved (l : List ℕ) (from : ℕ) (now : List ℕ) (j : ℕ) : Type 0
   pub rest : (k : ℕ) → j ≤ k → getD now k 0 ≡ getD l k 0
 
 module _ (l : List ℕ) (from : ℕ) (h : from ≤ length l) where
-  pub moved-length : length (movedFrom l from) ≡ length l
+  moved-length : length (movedFrom l from) ≡ length l
   moved-length = let d = length-drop from l in let r = length-replicate {A = ℕ} from 0 in omega (arith, length-append (drop from l) (replicate from 0))
 
   pub moved-start : Moved l from l 0

@@ -10,7 +10,6 @@
 --   Outcome L         an answer, and what the call leaves in the slices;   outcome r left   these of a host
 --   hostLeaves, hostRead   these of what run, reset_bits, settle, prune and write, and of what read answer and leave
 use mathlib.Core.Path.{_≡_}
-use mathlib.Core.List.{List}
 use Prim.Native.Nat.{ℕ}
 use Rattle.vectors.specs.declared.OutputBit.{OutputBit}
 use Rattle.vectors.specs.declared.OutputBit.the-variants.{Zero, One, Unknown}

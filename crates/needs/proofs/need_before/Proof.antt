@@ -4,8 +4,9 @@ use mathlib.Core.List.{List}
 use Prim.Native.Nat.{ℕ, _<_}
 use native.Mathlib.Omega.{arith}
 use lib.ListN.{length, set, length-set}
-use Rattle.needs.specs.Encoding.{ZeroOrOne, SpanIn}
-use Rattle.needs.proofs.Marks.{writes-row, first-in, data-in, second-in, sixth-in, still-in, span-length, before-length, store-marked, row-marked, set-bytes, span-bytes}
+use Rattle.needs.specs.Encoding.{ZeroOrOne}
+use Rattle.needs.proofs.Marks.{still-in, span-length, before-length, set-bytes, span-bytes}
+use Rattle.needs.proofs.RowWords.{writes-row, first-in, data-in, second-in, sixth-in, store-marked, row-marked}
 use borrow.Author.Needs.{needs}
 use Rattle.needs.proofs.need_before.Statement.{statement}
 use Rattle.needs.proofs.need_before.Tie as tie
@@ -16,13 +17,13 @@ abbrev store : tie.After-index → tie.Start
 store x = x .before .before .before .before
 
 address-in : (c : tie.After-index2) → c .before .index .result < length (store (c .before) .args .need .now)
-address-in c = let x = c .before in let s = store x in first-in (s .args .r) (s .pre .1) _ 1 (x .index .ensures)
+address-in c = let x = c .before in let s = store x in first-in (s .args .r) (s .pre .1) _ (x .index .ensures)
 
 slice-write-need-2 : tie.Need-slice-write-need-2
 slice-write-need-2 c =
     let x = c .before in
     let s = store x in
-    let d = data-in (s .args .r) (s .pre .1) _ 1 (x .before .if1 .taken) (c .index2 .ensures) in
+    let d = data-in (s .args .r) (s .pre .1) _ (x .before .if1 .taken) (c .index2 .ensures) in
     let l = length-set (s .args .need .now) (x .index .result) 1 in
     omega arith
 
@@ -54,7 +55,7 @@ marked c = set (ceased c) (c .index4 .result) 1
 slice-write-need-4 : tie.Need-slice-write-need-4
 slice-write-need-4 c =
     let s = other c in
-    let f = first-in (s .args .r) (s .pre .1) _ 1 (c .index4 .ensures) in
+    let f = first-in (s .args .r) (s .pre .1) _ (c .index4 .ensures) in
     let l = length-set (s .args .need .now) (c .before .index3 .result) 0 in
     omega arith
 

@@ -1,10 +1,9 @@
 -- `needs::second_rows` meets its contract: the word b is a row or unused. Assumes nothing.
 use mathlib.Core.Path.{ap, _∙_}
-use Prim.Native.Nat.{ℕ}
 use Rattle.operations.specs.Kinds.{kindOf}
 use Rattle.operations.specs.Memory.{span}
 use Rattle.operations.proofs.Sound.{second-plain, second-no-number}
-use Rattle.needs.proofs.Marks.{one-word}
+use Rattle.needs.proofs.RowWords.{one-word}
 use borrow.Author.Needs.{needs}
 use Rattle.needs.proofs.second_rows.Statement.{statement}
 use Rattle.needs.proofs.second_rows.Tie as tie

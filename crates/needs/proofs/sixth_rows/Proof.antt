@@ -1,15 +1,14 @@
 -- `needs::sixth_rows` meets its contract: the cells of a load, and of the other kinds that write a row t the condition or nothing. Assumes nothing.
-use mathlib.Core.Path.{_≡_, refl, sym, ap, _∙_, subst}
+use mathlib.Core.Path.{_≡_, sym, ap, _∙_, subst}
 use mathlib.Core.Bool.{not}
 use Prim.Native.Nat.{ℕ}
 use lib.Dec.{T, T-not, not-T}
 use Rattle.operations.specs.Kind.{isRow, isBase}
-use Rattle.operations.specs.Kinds.{isKind, kindOf}
+use Rattle.operations.specs.Kinds.{kindOf}
 use Rattle.operations.specs.Memory.{span}
-use Rattle.operations.specs.declared.Record.{Record}
 use Rattle.operations.specs.Record.{usedLast, sixthRows}
 use Rattle.operations.proofs.Sound.{sixth-plain, sixth-no-number, load-or-store}
-use Rattle.needs.proofs.Marks.{last-word}
+use Rattle.needs.proofs.RowWords.{last-word}
 use borrow.Author.Needs.{needs}
 use Rattle.needs.proofs.sixth_rows.Statement.{statement}
 use Rattle.needs.proofs.sixth_rows.Tie as tie

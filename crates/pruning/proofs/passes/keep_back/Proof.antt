@@ -6,7 +6,6 @@ use lib.ListN.{length}
 use Rattle.needs.specs.Needs.{stays}
 use Rattle.needs.specs.Encoding.{RowsIn}
 use Rattle.pruning.proofs.BackTurns.{Back, back-start, in-words, rows-in, back-goes, back-stays, back-end}
-use borrow.Author.Needs.{needs}
 use Rattle.pruning.proofs.passes.keep_back.Statement.{statement}
 use Rattle.pruning.proofs.passes.keep_back.Tie as tie
 

@@ -4,7 +4,6 @@ use Prim.Native.Nat.{_-_, _≤_}
 use native.Mathlib.Omega.{arith}
 use lib.ListN.{length, length-set}
 use Rattle.pruning.proofs.MovedWords.{Moved, moved-start, moved-next, moved-end}
-use borrow.Author.Needs.{needs}
 use Rattle.pruning.proofs.passes.move_down.Statement.{statement}
 use Rattle.pruning.proofs.passes.move_down.Tie as tie
 
