@@ -50,3 +50,12 @@ pub fn print_line(name: &[u8], tally: Tally) {
     io::write_all(1, name);
     print_tally(tally);
 }
+
+// The line of the records that `prune` keeps and of those that it drops.
+pub fn print_records(kept: u64, dropped: u64) {
+    io::write_all(1, b"kept, dropped\t");
+    io::print_decimal(1, kept);
+    io::write_all(1, b"\t");
+    io::print_decimal(1, dropped);
+    io::write_all(1, b"\n");
+}

@@ -14,7 +14,7 @@ pub fn remainder(x: u64, n: u64) -> u64
     x % n
 }
 
-// A number below n: that of a place of a part of a table. Parts 0 to 3 are its records, part 4 its start rows.
+// A number below n: that of a place of a part of a table. Parts 0 to 3 are its records, part 4 its start rows, and its marks where it has any.
 pub fn drawn(table: u64, part: u64, place: u64, n: u64) -> u64
     requires { ⌜ 1 ≤ n ⌝ }
     ensures { λ r. ⌜ r < n ⌝ }

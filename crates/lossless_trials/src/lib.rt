@@ -19,7 +19,7 @@ use runs::all_runs;
 use tables::RunAnswer;
 
 mod designs; // designs.rt: a table of ten rows and four records
-mod draws; // draws.rt: the numbers drawn
+pub mod draws; // draws.rt: the numbers drawn
 mod kinds; // kinds.rt: what each kind asks
 mod last; // last.rt: what the last record gives
 mod memories; // memories.rt: loads and stores drawn

@@ -1,4 +1,4 @@
--- Tables grown out of old designs (02, request 13): the rows that are needed, and the records that stay.
+-- Tables grown out of old designs (02, request 13): the rows that are needed, and the records that stay (both 02's terms).
 --   marked marks i          row i is marked
 --   among i rows            row i is one of the rows
 --   stays words need        the record stays, where `need` says which rows are needed after it

@@ -1,7 +1,7 @@
 // The two passes of prune: back over the records, of which those that stay move up to the end of the words, and forward over the words, which move down.
 ghost use mathlib.Core.Path.{_≡_};
 ghost use mathlib.Core.List.{[], _++_};
-ghost use Prim.Native.Nat.{_+_, _-_, _*_, _/_, _≤_, _<_};
+ghost use Prim.Native.Nat.{_+_, _*_, _/_, _≤_};
 ghost use lib.ListN.{length, getD, drop, replicate};
 ghost use Rattle.operations.specs.Limits.{recordWords};
 ghost use Rattle.checks.specs.Model.{lent};
