@@ -10,7 +10,7 @@ use texts::{BytesAnswer, ReadAnswer, read, size, write};
 const HELD_WORDS: usize = RECORD_WORDS * RECORD_LIMIT;
 
 // What a text is: none that can be read, that of a table for which the room is exact, or that of one for which it is not.
-#[derive(Drop)]
+#[derive(Clone, Copy)]
 pub enum Room {
     NoTable,
     Exact,
@@ -58,7 +58,7 @@ fn fills(
     if !is_bytes(write(width, lock, mask, value, words, out), out.len()) {
         return false;
     }
-    check::same(out, text)
+    *out == *text
 }
 
 // Whether size answers the bytes of the text, and write fills a buffer of exactly that length with it and refuses one byte less.

@@ -11,7 +11,7 @@ use vector_trials::operation_bits::each_bit;
 use vector_trials::ranges::each_low_end;
 
 // What is tried of a table: run of its record, whose operand words name two rows, or one row twice; or a call on its operands as bare vectors.
-#[derive(Drop)]
+#[derive(Clone, Copy)]
 pub enum Through {
     Run,
     OneRowTwice,

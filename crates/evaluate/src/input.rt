@@ -1,53 +1,29 @@
-// The input's bytes, or that they cannot be read.
-ghost use Rattle.std.specs.Prelude.{◌≤◌, length};
+// The input's bytes, or why they cannot be read.
+ghost use Rattle.std.specs.Prelude.{◌≤◌, length, IfOk};
 
-use libc::EINTR;
+use std::io;
+use std::io::{ErrorKind, Read};
 
-// Whether a read failed, and how many bytes stand at the start of the buffer.
-#[derive(Drop)]
-pub struct Input {
-    pub failed: bool,
-    pub count: usize,
-}
-
-// One read. A read that a signal interrupts is tried again; the count of tries only serves to end the loop.
-fn read_some(fd: i32, buffer: &mut [u8]) -> isize {
-    let mut tries = u64::MAX;
-    while tries > 0 {
-        let got = libc::read(fd, buffer);
-        if got >= 0 {
-            return got;
-        }
-        if os::errno() != EINTR {
-            return got;
-        }
-        tries -= 1;
-    }
-    -1
-}
-
-// Reads until the input ends or the buffer is full.
-pub fn read_all(fd: i32, buffer: &mut [u8]) -> Input
-    ensures { result.count ≤ length buffer.new }
+// Reads until the input ends or the buffer is full, and tells how many bytes stand at the start of the buffer. A read that a signal interrupts is tried again.
+pub fn read_all(source: &mut (impl Read), buffer: &mut [u8]) -> io::Result<usize>
+    ensures { IfOk result (λ n. n ≤ length buffer.new) }
 {
     let mut count: usize = 0;
-    while count < buffer.len() {
-        let rest = &mut buffer[count..];
-        let got = read_some(fd, rest);
-        if got < 0 {
-            return Input {
-                failed: true,
-                count: 0,
-            };
-        }
-        let more = io::count(got, rest);
-        if more == 0 {
+    for _ in 0..u64::MAX {
+        if count >= buffer.len() {
             break;
         }
-        count += more;
+        match source.read(&mut buffer[count..]) {
+            Ok(0) => break,
+            Ok(more) => {
+                count += more;
+            }
+            Err(e) => {
+                if e.kind() != ErrorKind::Interrupted {
+                    return Err(e);
+                }
+            }
+        }
     }
-    Input {
-        failed: false,
-        count: count,
-    }
+    Ok(count)
 }

@@ -1,29 +1,39 @@
 // Reads a table's text from standard input, runs all its records and writes the whole table, or the refusal's line, to standard output.
 // An input that cannot be read prints nothing there; that, an output that cannot be written and an argument are told in a line on standard error.
+#![tactic(auto)]
+
 use input::read_all;
-use libc::{STDERR_FILENO, STDIN_FILENO, STDOUT_FILENO};
-use output::write_all;
+use std::env::{Env, FillError};
+use std::io;
 
-mod input; // input.rt: the input's bytes, or that they cannot be read
-mod output; // output.rt: all bytes written, or that they cannot be
+mod input; // input.rt: the input's bytes, or why they cannot be read
 
-fn main() {
-    if os::arg_count() > 1 {
-        write_all(
-            STDERR_FILENO,
-            b"usage: evaluate takes no argument; it reads a table from standard input\n",
-        );
-        return;
+// Whether the program was given an argument.
+fn has_argument(env: &impl Env) -> bool {
+    let mut word = [0u8; 1];
+    match env.arg(1, &mut word) {
+        Err(FillError::NotPresent) => false,
+        _ => true,
+    }
+}
+
+fn main(rt: HostRuntime) -> io::Result<()> {
+    if has_argument(&rt) {
+        eprintln!(rt; "usage: evaluate takes no argument; it reads a table from standard input")?;
+        return Ok(());
     }
     let mut text = evaluation::text_buffer();
-    let input = read_all(STDIN_FILENO, &mut text);
-    if input.failed {
-        os::fail(b"evaluate: standard input cannot be read");
-        return;
-    }
+    let count = match read_all(&mut rt.reader(), &mut text) {
+        Ok(n) => n,
+        Err(e) => {
+            eprintln!(rt; "evaluate: standard input cannot be read: {e}")?;
+            return Ok(());
+        }
+    };
     let mut out = evaluation::output_buffer();
-    let m = evaluation::evaluate_input(&text, input.count, &mut out);
-    if !write_all(STDOUT_FILENO, &out[..m]) {
-        os::fail(b"evaluate: standard output cannot be written");
+    let m = evaluation::evaluate_input(&text, count, &mut out);
+    if let Err(e) = rt.write_all(&out[..m]) {
+        eprintln!(rt; "evaluate: standard output cannot be written: {e}")?;
     }
+    Ok(())
 }

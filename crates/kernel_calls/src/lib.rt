@@ -1,5 +1,7 @@
 // Kernels as a C or C++ program can call them, so that a benchmark measures them beside other code. Host programs link
 // `rifflerleek`, which has none of this: here the caller has to bring what the kernels take for granted.
+#![tactic(auto)]
+
 ghost use Rattle.std.specs.Prelude.{not, ◌≡◌, [], ◌∷◌, ◌*◌, ◌≤◌, eqb};
 ghost use Rattle.bits.specs.Limits.{width_limit};
 ghost use Rattle.vectors.specs.Row.{row};
@@ -13,7 +15,7 @@ use wide_products::wide_product;
 
 // Mask and value of a result.
 #[repr(C)]
-#[derive(Drop)]
+#[derive(Clone, Copy)]
 pub struct Planes {
     pub mask: u32,
     pub value: u32,

@@ -1,4 +1,6 @@
-// The library for C, C++ and Rust programs: the public calls, exported (01, "Calls").
+// The library for C, C++ and Rust programs: the public calls as they are exported (01, "Calls"). Crate `rifflerleek_c` makes the archive of them.
+#![tactic(auto)]
+
 ghost use Rattle.std.specs.Prelude.{◌≡◌, []};
 ghost use Rattle.checks.specs.Model.{lent};
 ghost use Rattle.tables.specs.Known.{Demand2};
@@ -20,9 +22,16 @@ mod reset_exports; // reset_exports.rt: which reset bits a conclusion rests on
 mod settle_exports; // settle_exports.rt: clock after clock until it settles, and the ordering of two states
 mod vector_exports; // vector_exports.rt: the calls on bare vectors
 
+pub use prune_exports::rifflerleek_prune;
+pub use reset_exports::rifflerleek_reset_bits;
+pub use settle_exports::{rifflerleek_compare_states, rifflerleek_settle};
+pub use vector_exports::{
+    FourNumbers, rifflerleek_product_bit, rifflerleek_range, rifflerleek_witnesses,
+};
+
 // What a call answers that gives at most two numbers: refusal 0 and the results, or the refusal's number and its place.
 #[repr(C)]
-#[derive(Drop)]
+#[derive(Clone, Copy)]
 pub struct Answer {
     pub refusal: u32,
     pub place: usize,
@@ -70,8 +79,7 @@ fn refused(why: Refusal) -> Answer
 }
 
 // Runs the stretch of records from first up to but not including last; `result` of the answer is last.
-#[unsafe(no_mangle)]
-pub extern "C" fn rifflerleek_run(
+pub fn rifflerleek_run(
     width: &[u8],
     lock: &[u8],
     mask: &mut [u32],
@@ -94,8 +102,7 @@ pub extern "C" fn rifflerleek_run(
 }
 
 // Counts the unknown bits u of a row: `result` of the answer is u, `second_result` is 2^u.
-#[unsafe(no_mangle)]
-pub extern "C" fn rifflerleek_count(
+pub fn rifflerleek_count(
     width: &[u8],
     lock: &[u8],
     mask: &[u32],
@@ -111,8 +118,7 @@ pub extern "C" fn rifflerleek_count(
 }
 
 // Counts the bytes of the table's text: `result` of the answer.
-#[unsafe(no_mangle)]
-pub extern "C" fn rifflerleek_size(
+pub fn rifflerleek_size(
     width: &[u8],
     lock: &[u8],
     mask: &[u32],
@@ -129,8 +135,7 @@ pub extern "C" fn rifflerleek_size(
 }
 
 // Writes the table's text into the lent buffer: `result` of the answer is its byte count.
-#[unsafe(no_mangle)]
-pub extern "C" fn rifflerleek_write(
+pub fn rifflerleek_write(
     width: &[u8],
     lock: &[u8],
     mask: &[u32],
@@ -148,8 +153,7 @@ pub extern "C" fn rifflerleek_write(
 }
 
 // Reads a text into the lent slices: `result` of the answer is the number of rows, `second_result` that of records.
-#[unsafe(no_mangle)]
-pub extern "C" fn rifflerleek_read(
+pub fn rifflerleek_read(
     text: &[u8],
     width: &mut [u8],
     lock: &mut [u8],
@@ -168,8 +172,7 @@ pub extern "C" fn rifflerleek_read(
 }
 
 // Where the field of a line lies in the text, both numbered from 1: from `result` of the answer up to but not including `second_result`. It never refuses.
-#[unsafe(no_mangle)]
-pub extern "C" fn rifflerleek_field(text: &[u8], line: usize, field: usize) -> Answer
+pub fn rifflerleek_field(text: &[u8], line: usize, field: usize) -> Answer
     ensures { result ≡ ends_answer (field_ends text.now line field) }
 {
     let l = part(text, line, LF);

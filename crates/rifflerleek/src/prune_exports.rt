@@ -8,8 +8,7 @@ use crate::{Answer, done, refused};
 use pruning::PruneAnswer;
 
 // Leaves the records that the marked rows rest on at the start of the words, and zeros after them: `result` of the answer is their number.
-#[unsafe(no_mangle)]
-pub extern "C" fn rifflerleek_prune(
+pub fn rifflerleek_prune(
     width: &[u8],
     lock: &[u8],
     mask: &[u32],

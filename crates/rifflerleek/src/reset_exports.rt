@@ -9,8 +9,7 @@ use crate::{Answer, done, refused};
 use resets::ResetAnswer;
 
 // Leaves the rows with the start vectors on which the bit named rests: `result` of the answer is the bit's value.
-#[unsafe(no_mangle)]
-pub extern "C" fn rifflerleek_reset_bits(
+pub fn rifflerleek_reset_bits(
     width: &[u8],
     lock: &[u8],
     mask: &mut [u32],

@@ -13,8 +13,7 @@ use clocks::SettleAnswer;
 use orders::{CompareAnswer, Order};
 
 // Leaves the rows as the last round leaves them: `result` of the answer is the number of rounds.
-#[unsafe(no_mangle)]
-pub extern "C" fn rifflerleek_settle(
+pub fn rifflerleek_settle(
     width: &[u8],
     lock: &[u8],
     mask: &mut [u32],
@@ -48,8 +47,7 @@ fn order_number(o: Order) -> usize
 }
 
 // How the first of two states stands to the second: `result` of the answer is 0 for equal, 1 for inside, 2 for around, 3 for none of these.
-#[unsafe(no_mangle)]
-pub extern "C" fn rifflerleek_compare_states(
+pub fn rifflerleek_compare_states(
     width: &[u8],
     mask_1: &[u32],
     value_1: &[u32],

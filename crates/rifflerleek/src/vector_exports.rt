@@ -26,8 +26,7 @@ fn bit_number(b: OutputBit) -> usize
 }
 
 // One bit of the product of two vectors of one width: `result` of the answer is 0, 1, or 2 for X. The operands are chosen independently.
-#[unsafe(no_mangle)]
-pub extern "C" fn rifflerleek_product_bit(
+pub fn rifflerleek_product_bit(
     width: u32,
     mask_a: u32,
     value_a: u32,
@@ -45,7 +44,7 @@ pub extern "C" fn rifflerleek_product_bit(
 
 // What a call answers that gives four numbers: refusal 0 and the numbers, or the refusal's number and its place.
 #[repr(C)]
-#[derive(Drop)]
+#[derive(Clone, Copy)]
 pub struct FourNumbers {
     pub refusal: u32,
     pub place: usize,
@@ -71,8 +70,7 @@ fn no_numbers(why: Refusal) -> FourNumbers
 
 // Two pairs of operands that two vectors of one width cover. With `first` and `second` of the answer the bit of the plain result is 0, with `third` and
 // `fourth` it is 1. The operands are chosen independently.
-#[unsafe(no_mangle)]
-pub extern "C" fn rifflerleek_witnesses(
+pub fn rifflerleek_witnesses(
     kind: u32,
     width: u32,
     mask_a: u32,
@@ -99,14 +97,7 @@ pub extern "C" fn rifflerleek_witnesses(
 
 // The best vector covering all numbers between two ends that a vector covers: `first` and `second` of the answer are its mask and value, `third` and `fourth`
 // the smallest and the largest of these numbers.
-#[unsafe(no_mangle)]
-pub extern "C" fn rifflerleek_range(
-    width: u32,
-    mask: u32,
-    value: u32,
-    low: u64,
-    high: u64,
-) -> FourNumbers
+pub fn rifflerleek_range(width: u32, mask: u32, value: u32, low: u64, high: u64) -> FourNumbers
     ensures answer { result ≡ range_answer (range_of width mask value low high) }
     ensures best { result.refusal ≡ 0 → Ranged (row width mask value) low high (range_held result) }
     ensures empty { (result ≡ four_refusal 18 0) ↔ Absent width mask value low high }
