@@ -1,4 +1,6 @@
 // Numbers of another size, the mask of a width, and the reversed word, put together from a table of 256 reversed bytes.
+#![tactic(auto)]
+
 ghost use Rattle.std.specs.Prelude.{◌≡◌, ◌+◌, ◌-◌, ◌*◌, ◌/◌, ◌^◌, ◌≤◌, ◌<◌};
 ghost use Rattle.bits.specs.Limits.{width_limit};
 ghost use Rattle.bits.specs.Reversed.{reversed, reversed_bytes};
@@ -59,7 +61,7 @@ fn reverse(table: &[u8; 256], x: u32) -> u32
 }
 
 // Four words.
-#[derive(Drop)]
+#[derive(Clone, Copy)]
 pub struct FourWords {
     pub a: u32,
     pub b: u32,

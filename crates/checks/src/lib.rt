@@ -1,4 +1,6 @@
 // Tables: the checks of their rows and records, and of a bit number.
+#![tactic(auto)]
+
 ghost use Rattle.std.specs.Prelude.{◌≡◌, List, ◌++◌};
 ghost use Rattle.checks.specs.Check.{refused, Check};
 ghost use Rattle.checks.specs.Model.{verdict_model, judged};
@@ -12,14 +14,14 @@ pub mod refusals; // refusals.rt: the numbers of the refusals
 pub mod rows; // rows.rt: checks 4 and 5, and 15 of a bit number
 
 // A refusal holds its number and its place.
-#[derive(Drop)]
+#[derive(Clone, Copy)]
 pub struct Refusal {
     pub number: u32,
     pub place: usize,
 }
 
 // What checks find: nothing, or the first refusal.
-#[derive(Drop)]
+#[derive(Clone, Copy)]
 pub enum Verdict {
     Passed,
     Refused(Refusal),

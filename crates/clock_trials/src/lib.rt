@@ -2,6 +2,8 @@
 // states through `compare_states`, compared by the numbers that they cover.
 // A table has four rows of one width, 1 or 2, and two records. Rows 0 and 1 are there to be state rows; the records write row 3, and row 2 or not. Row 2 is
 // locked where nothing writes it.
+#![tactic(auto)]
+
 ghost use Rattle.std.specs.Prelude.{◌≤◌};
 
 use checks::refusals;
@@ -23,7 +25,7 @@ pub mod sweeps; // sweeps.rt: the tables tried
 mod widening; // widening.rt: the rounds
 
 // How many state rows there are and how many next rows, and two of each. A single pair is there twice. The pairs may be such that `settle` refuses them.
-#[derive(Drop)]
+#[derive(Clone, Copy)]
 struct Pairs {
     count: u64,
     nexts: u64,
@@ -35,7 +37,7 @@ struct Pairs {
 }
 
 // A table: the width, the rows, both records and the pairs.
-#[derive(Drop)]
+#[derive(Clone, Copy)]
 struct Question {
     w: u64,
     rows: Rows,

@@ -6,7 +6,7 @@ use crate::{Pairs, Question};
 use reset_trials::rows::Rows;
 
 // The states after clocks, and whether the rows left cover all numbers at the end of each.
-#[derive(Drop)]
+#[derive(Clone, Copy)]
 struct Clocks {
     after: u64,
     covered: bool,

@@ -9,7 +9,7 @@ use oracle::shapes::{LOAD, STORE, Shape};
 use reset_trials::rows::{Rows, row_at};
 
 // The words of a record. A load has two cells, and a store has the cells 2 and 3.
-#[derive(Drop)]
+#[derive(Clone, Copy)]
 pub struct Record {
     pub kind: u64,
     pub t: u64,

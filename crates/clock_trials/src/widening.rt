@@ -8,7 +8,7 @@ use oracle::choices::Row;
 use reset_trials::rows::{Rows, row_at};
 
 // How many rounds there are, 0 where they do not end, and the rows after the last one's run.
-#[derive(Drop)]
+#[derive(Clone, Copy)]
 pub struct Ended {
     pub count: u64,
     pub rows: Rows,

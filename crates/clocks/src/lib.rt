@@ -1,4 +1,6 @@
 // Clock after clock until it settles (02, request 12): settle.
+#![tactic(auto)]
+
 ghost use Rattle.std.specs.Prelude.{◌≡◌, ℕ};
 ghost use Rattle.checks.specs.Check.{done};
 ghost use Rattle.checks.specs.Model.{lent, verdict_model, judged};
@@ -21,7 +23,7 @@ use table_checks::check_run;
 use tables::stepping::step_all;
 
 // The number of rounds, or a refusal.
-#[derive(Drop)]
+#[derive(Clone, Copy)]
 pub enum SettleAnswer {
     Rounds(usize),
     Refused(Refusal),

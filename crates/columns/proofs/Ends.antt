@@ -1,7 +1,7 @@
 -- The words of the columns below an end and from an end on. Assumes nothing.
 --   below-lowest-set          the ones below the lowest set bit
 --   known-below, known_from   words of known columns
-use Rattle.std.proofs.Common.{◌≡◌, ℕ, zero, suc, ◌+◌, ◌-◌, ◌*◌, ◌/◌, ◌%◌, ◌^◌, ◌<◌, ◌≤◌, min, sym, refl, ap, ◌∙◌, ap₂, lt_of_le_of_lt, pow-suc, arith, pow_pos, pow_mono}
+use Rattle.std.proofs.Common.{◌≡◌, ℕ, suc, ◌+◌, ◌-◌, ◌*◌, ◌/◌, ◌%◌, ◌^◌, ◌<◌, ◌≤◌, min, sym, refl, ap, ◌∙◌, ap₂, lt_of_le_of_lt, pow-suc, arith, pow_pos, pow_mono}
 use native.Mathlib.Decide.{dec_lt, ℕ_discrete}
 use lib.Pow.{split}
 use lib.Bits.{bit_and, and_le_l, and_self}

@@ -1,5 +1,7 @@
 // Columns of a product that a few plain products settle, so that only the others are worked out one by one: a column is unknown where two
 // covered products differ, and known where no unknown bit can change it (01, "Abstract result").
+#![tactic(auto)]
+
 ghost use Rattle.std.specs.Prelude.{◌≡◌, ◌-◌, ◌*◌, ◌%◌, ◌^◌, min};
 ghost use Rattle.std.specs.Int.Count.{count_trailing_zeros};
 ghost use Rattle.columns.specs.Settled.{AllKnown};

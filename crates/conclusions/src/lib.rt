@@ -1,4 +1,6 @@
 // Which start bits a conclusion rests on (02, request 9): conclusions, and the parts of a trial.
+#![tactic(auto)]
+
 ghost use Rattle.std.specs.Prelude.{◌≡◌, ◌&&◌, List, ℕ, ◌<◌, eqb, length};
 ghost use Rattle.bits.specs.Bit.{bit};
 ghost use Rattle.steps.specs.States.{held};
@@ -6,7 +8,7 @@ ghost use Rattle.conclusions.specs.Pass as Pass;
 ghost use Rattle.conclusions.specs.Pass.{position};
 
 // A conclusion: a bit of a row that a full run leaves known, and its value.
-#[derive(Drop)]
+#[derive(Clone, Copy)]
 pub struct Conclusion {
     pub row: usize,
     pub at: u32,

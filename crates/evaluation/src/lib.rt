@@ -1,4 +1,6 @@
 // From a text to what `evaluate` prints (01, "Text").
+#![tactic(auto)]
+
 ghost use Rattle.std.specs.Prelude.{◌≡◌, List, ℕ, ◌≤◌, length};
 ghost use Rattle.checks.specs.Model.{lent};
 ghost use Rattle.evaluation.specs.Evaluate.{Printed, Rooms, HeldOf, text_room, output_room, refused_line, printed_table, evaluate_in, evaluate_of};

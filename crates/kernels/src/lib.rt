@@ -1,4 +1,6 @@
 // From a kind without cells to its kernel, over independent operands.
+#![tactic(auto)]
+
 ghost use Rattle.std.specs.Prelude.{◌≡◌, not, [], ◌∷◌, ◌≤◌, T};
 ghost use Rattle.bits.specs.Limits.{width_limit};
 ghost use Rattle.vectors.specs.Row.{row};

@@ -1,4 +1,6 @@
 // The bytes that a line of a text has, counted without printing it (01, "Text"; 02, requests 1 and 11).
+#![tactic(auto)]
+
 ghost use Rattle.std.specs.Prelude.{◌≡◌, ℕ, T, length};
 ghost use Rattle.vectors.specs.Row.{row};
 ghost use Rattle.operations.specs.Kinds.{is_kind};

@@ -1,6 +1,6 @@
 -- A byte looked for among letters: the loop that goes through them, and what its answers tell. Assumes nothing.
 --   Left b l i   whether b stands in l is told by what follows the first i
---   found, passed, at-end   the letter is b; it is not; there is none left
+--   found, passed, at-end   the letter is b; it is not; there is none left;   found_from   of what follows the first i, where the letter is b
 --   in-edition   the letters of an edition that was told
 --   first_of, second-of, third_of   a letter of one of three lists;   digit-is   the bit of an answer
 use mathlib.Core.Path.{◌≡◌, sym, ap, ◌∙◌}
@@ -34,6 +34,11 @@ module _ (b : ℕ) (l : List ℕ) (i : ℕ) (left : Left b l i) where
 
   pub at-end : i ≡ length l → false ≡ is_in b l
   at-end e = sym (ap (λ (k : ℕ). is_in b (drop k l)) e ∙ ap (is_in b) (drop-length l)) ∙ left
+
+-- b stands in what follows the first i letters, as the letter here is b
+pub found_from : (b : ℕ) (l : List ℕ) (i : ℕ) → i < length l → get_or l i 0 ≡ b → is_in b (drop i l) ≡ true
+found_from b l i h e =
+    ap (is_in b) (drop-cons l i 0 h) ∙ ap (λ (x : Bool). x || is_in b (drop (suc i) l)) (eq-eqb b (get_or l i 0) (sym e))
 
 -- ---- what an answer r tells
 

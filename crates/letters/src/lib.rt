@@ -1,4 +1,6 @@
 // The editions of the text by their letters, and the vector that a field of letters tells (01, "Text"; 02, requests 5 and 11).
+#![tactic(auto)]
+
 ghost use Rattle.std.specs.Prelude.{◌≡◌};
 ghost use Rattle.grammar.specs.Lists.{is_in};
 ghost use Rattle.grammar.specs.Line.{is_letter, mask_bit, value_bit, is_vector, vector_of};
@@ -8,7 +10,7 @@ ghost use Rattle.letters.specs.Model.{edition_model, vector_model};
 const WIDTH_LIMIT: usize = checks::limits::WIDTH_LIMIT as usize;
 
 // The edition that a text is read by.
-#[derive(Drop)]
+#[derive(Clone, Copy)]
 pub enum Edition {
     First,
     Second,
@@ -16,7 +18,7 @@ pub enum Edition {
 }
 
 // What a field tells where it stands for a vector.
-#[derive(Drop)]
+#[derive(Clone, Copy)]
 pub enum VectorField {
     Vector { width: u32, mask: u32, value: u32 },
     Bad,
@@ -34,6 +36,7 @@ pub fn is_older(e: Edition) -> bool
 }
 
 // Is `b` one of the letters?
+#[tactic(auto, using(crate::proofs::Among::found_from))]
 fn is_among(b: u8, letters: &[u8]) -> bool
     ensures { result ≡ is_in b letters.now }
 {

@@ -8,7 +8,7 @@ use crate::limits::NUMBER_LIMIT;
 use bits::wide;
 
 // What a field tells where it stands for a number, a lock or a kind.
-#[derive(Drop)]
+#[derive(Clone, Copy)]
 pub enum NumberField {
     Number(u32),
     Bad,

@@ -1,4 +1,5 @@
 // Lines of a text and their parts, read from its bytes (01, "Text").
+#![tactic(auto)]
 
 pub mod cut; // cut.rt: parts of a text
 pub mod fields; // fields.rt: the number that a field tells

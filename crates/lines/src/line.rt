@@ -15,7 +15,7 @@ use letters::{Edition, VectorField, is_older, vector};
 use operations::{RECORD_WORDS, Record};
 
 // A row line by lock, width, mask and value; a record line by its record; a line outside the grammar.
-#[derive(Drop)]
+#[derive(Clone, Copy)]
 pub enum Found {
     Row(u32, u32, u32, u32),
     Record(Record),

@@ -9,7 +9,7 @@ use crate::words::is_word;
 use letters::Edition;
 
 // A text's edition, and where and with which number its first row or record line begins.
-#[derive(Drop)]
+#[derive(Clone, Copy)]
 pub struct Opening {
     pub edition: Edition,
     pub at: usize,

@@ -15,7 +15,7 @@ use crate::words::kind_among;
 use operations::{KINDS, Record, sixth_use};
 
 // What the fields after `op` tell.
-#[derive(Drop)]
+#[derive(Clone, Copy)]
 pub enum RecordField {
     Good(Record),
     Bad,

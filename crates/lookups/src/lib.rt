@@ -1,4 +1,6 @@
 // Lookup memories: the vector that a load gives (02, request 11).
+#![tactic(auto)]
+
 ghost use Rattle.std.specs.Prelude.{◌≡◌, ◌∷◌, ℕ, suc, min};
 ghost use Rattle.vectors.specs.Row.{row};
 ghost use Rattle.vectors.specs.Best.{best};

@@ -118,7 +118,7 @@ imprecise-of t last i m c u P =
 pub blunt-of : (t : Table) (last i k b : ℕ) → k < width_at t.widths i → b < 2 → bit (row_at t.widths (point_rows t 0 last) i).mask k ≡ 1
     → T (not (some_choice (start_rows t.widths (start_of t)) (λ ns. not (eqb (bit (get_or (plain_run t 0 last ns) i 0) k) b)))) → SharpRun t 0 last i → ⊥
 blunt-of t last i k b h l x u S =
-    let z = ((S.Known-as k h b l).1 (λ ns C. eqb→eq (bit (get_or (plain_run t 0 last ns) i 0) k) b
+    let z = ((S.known_as k h b l).1 (λ ns C. eqb→eq (bit (get_or (plain_run t 0 last ns) i 0) k) b
     (T_not-not (eqb (bit (get_or (plain_run t 0 last ns) i 0) k) b)
     (not_T (not (eqb (bit (get_or (plain_run t 0 last ns) i 0) k) b)) (no_start t.widths (start_of t) (λ ns. not (eqb (bit (get_or (plain_run t 0 last ns) i 0) k) b)) u ns C))))).known in
     absurd (omega arith)

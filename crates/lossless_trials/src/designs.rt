@@ -6,7 +6,7 @@ use crate::starts::{Starts, drawn_starts, pair};
 use oracle::numbers::{power, word};
 
 // A table: its number, its start rows 0 to 5, the widths of all rows, and its records in their order. Rows 6 to 9 are there to be written.
-#[derive(Drop)]
+#[derive(Clone, Copy)]
 pub struct Design {
     pub number: u64,
     pub starts: Starts,

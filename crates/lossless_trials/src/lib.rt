@@ -1,4 +1,6 @@
 // Small tables that lose nothing (02, request 10), through the public run, each compared with all plain runs from all covered starts.
+#![tactic(auto)]
+
 ghost use Rattle.std.specs.Prelude.{◌≤◌};
 
 use designs::{Design, drawn_design, masks, values, words};
@@ -13,7 +15,7 @@ mod designs; // designs.rt: a table of ten rows and four records
 pub mod draws; // draws.rt: the numbers drawn
 mod kinds; // kinds.rt: what each kind asks
 mod last; // last.rt: what the last record gives
-mod memories; // memories.rt: loads and stores drawn
+mod cells; // cells.rt: loads and stores drawn
 mod records; // records.rt: the records drawn
 mod rows; // rows.rt: the rows while records are drawn
 mod runs; // runs.rt: all plain runs

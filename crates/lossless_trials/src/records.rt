@@ -1,9 +1,9 @@
 // The records of a table, drawn so that it loses nothing (02, request 10).
 ghost use Rattle.std.specs.Prelude.{◌<◌};
 
+use crate::cells::drawn_memory;
 use crate::draws::drawn;
 use crate::kinds::{drawn_kind, parameter, second_width, target_width};
-use crate::memories::drawn_memory;
 use crate::rows::{ROWS, Rows, once_read, once_written, singleton, unread_row, width_of};
 use oracle::shapes::{LOAD, STORE, uses_condition, uses_second};
 
@@ -14,7 +14,7 @@ const MOST: u64 = 6;
 const NOT: u64 = 1;
 
 // The words of a record, and the width of its target.
-#[derive(Drop)]
+#[derive(Clone, Copy)]
 pub struct Record {
     pub kind: u64,
     pub t: u64,
@@ -26,7 +26,7 @@ pub struct Record {
 }
 
 // Different rows for a record to read.
-#[derive(Drop)]
+#[derive(Clone, Copy)]
 struct Operands {
     a: u64,
     b: u64,

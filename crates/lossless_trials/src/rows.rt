@@ -8,7 +8,7 @@ use oracle::numbers::{bit, byte};
 pub const ROWS: u64 = 10;
 
 // The widths of the rows, and the set of rows that a record may read: each is a start row or written, and nothing has read it.
-#[derive(Drop)]
+#[derive(Clone, Copy)]
 pub struct Rows {
     pub width: [u8; 10],
     pub unread: u64,

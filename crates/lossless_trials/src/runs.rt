@@ -15,7 +15,7 @@ use oracle::shapes::Shape;
 
 // The numbers that rows 6 to 8 get, as sets (bit x for the number x), and the bits that the last target gets: of a store the first cell of its span, and the
 // last one.
-#[derive(Drop)]
+#[derive(Clone, Copy)]
 pub struct Reached {
     pub first: u64,
     pub second: u64,

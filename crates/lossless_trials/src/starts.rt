@@ -5,7 +5,7 @@ use crate::draws::drawn;
 use oracle::numbers::power;
 
 // The start rows, in three numbers: row i has the bits from 2i on, of which those in `used` are its own.
-#[derive(Drop)]
+#[derive(Clone, Copy)]
 pub struct Starts {
     pub used: u64,
     pub mask: u64,

@@ -14,7 +14,7 @@ use Rattle.operations.specs.Record.{words_of, width_at, rows_named, target_rows,
 use Rattle.checks.specs.Accepted.{RecordPassed}
 use Rattle.checks.proofs.RecordChecks.{span-within}
 use Rattle.checks.proofs.Memory.{words, load_fits, store-fits}
-use Rattle.memories.specs.Effects.{load_effect, store_effect, store_effects, SpanFits}
+use Rattle.memories.specs.Effects.{load_effect, store_effects, SpanFits}
 
 module _ (widths : List ℕ) (r : Record) where
   load_is : effects_of widths (words 24 r) ≡ load_effect r.t r.a r.c r.p ∷ []

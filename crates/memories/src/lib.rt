@@ -1,4 +1,6 @@
 // Lookup memories: a load and a store on the rows of a table (02, request 11).
+#![tactic(auto)]
+
 ghost use Rattle.std.specs.Prelude.{◌≡◌, [], ◌∷◌};
 ghost use Rattle.steps.specs.Step as Step;
 ghost use Rattle.steps.specs.States.{StateFits, held};

@@ -7,7 +7,7 @@ use oracle::choices::Row;
 use oracle::numbers::times;
 
 // Whether the record is a store, the widths of the cells and of row 5, the number of cells, and the rows of address and data.
-#[derive(Drop)]
+#[derive(Clone, Copy)]
 pub struct Layout {
     pub store: bool,
     pub w: u64,

@@ -1,6 +1,8 @@
 // Loads and stores through the public run, each compared with plain enumeration of address, data and cells, and with plain runs (02, request 11).
 // A table has eight rows and one record. Rows 1 to n are the cells, and the rows after them up to 4 have their width. Row 5 is the address and row 6 the data,
 // where these are no cells. Row 0 is a load's target.
+#![tactic(auto)]
+
 ghost use Rattle.std.specs.Prelude.{◌<◌, ◌≤◌};
 
 use oracle::cells::{Cells, loaded, stored};
@@ -22,7 +24,7 @@ const ADDRESS: u64 = 5;
 const DATA: u64 = 6;
 
 // A table: whether its record is a store, the widths of the cells and of row 5, the number of cells, the rows of address and data, and all rows.
-#[derive(Drop)]
+#[derive(Clone, Copy)]
 struct Question {
     store: bool,
     w: u64,

@@ -59,3 +59,10 @@ taken-end marks need₀ need i K h k =
       | yes l ↦ K.taken k l
       | no l ↦ ap (λ (x : ℕ). eqb x 1) (K.empty k (omega arith) ∙ sym (get_or-eq_default marks 0 (omega arith)))
     ]
+
+-- the same with the bytes set in place
+pub taken_one : (marks need₀ need : List ℕ) (i : ℕ) → Taken marks need₀ need i → i < length marks → get_or marks i 0 ≡ 1 → Taken marks need₀ (set need i 1) (i + 1)
+taken_one marks need₀ need i K h e = taken-set marks need₀ need i K h (set need i 1) refl e
+
+pub taken_none : (marks need₀ need : List ℕ) (i : ℕ) → Taken marks need₀ need i → i < length marks → get_or marks i 0 ≢ 1 → Taken marks need₀ need (i + 1)
+taken_none marks need₀ need i K h d = taken-left marks need₀ need i K h need refl d

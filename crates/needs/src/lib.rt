@@ -1,4 +1,6 @@
 // Which rows are needed, a byte a row, 1 where it is (02, request 13).
+#![tactic(auto)]
+
 ghost use Rattle.std.specs.Prelude.{◌≡◌, [], ℕ, T, length};
 ghost use Rattle.operations.specs.Kind.{is_row};
 ghost use Rattle.operations.specs.Kinds.{is_kind, kind_of};
@@ -62,6 +64,7 @@ pub fn need_before(need: &mut [u8], r: Record)
 }
 
 // At the end the marked rows are needed. What the room holds at first is 0.
+#[tactic(auto, using(crate::proofs::Taken::taken_one, crate::proofs::Taken::taken_none))]
 pub fn take_marks(marks: &[u8], need: &mut [u8])
     requires { RoomForMarks marks.now need.old }
     ensures { ((i : ℕ) → marked need.new i ≡ marked marks.now i) × (length need.new ≡ length need.old) × ZeroOrOne need.new }

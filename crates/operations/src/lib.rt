@@ -1,5 +1,7 @@
 // The kinds as code: their number, and what each uses and asks of the widths, as the kinds' descriptions say.
 // A description is a digit of two bits to each kind, kind 0 the last: a shift reads it, and no table lies in memory. There is room for 32 kinds.
+#![tactic(auto)]
+
 ghost use Rattle.std.specs.Prelude.{◌&&◌, ◌≡◌, ◌+◌, ◌≤◌, ◌<◌, T, eqb, length, get_or};
 ghost use Rattle.std.proofs.lemmas.List.Edits.{sets};
 ghost use Rattle.operations.specs.Limits.{record_words};
@@ -9,7 +11,7 @@ ghost use Rattle.operations.specs.Record.{words_of};
 ghost use Rattle.operations.specs.Encoding.{digit_of, use_code, word_class, rule_code};
 
 // A record by its words: kind, target row t, operand rows a and b, parameter p, and the sixth word c, a base row or the condition.
-#[derive(Drop)]
+#[derive(Clone, Copy)]
 pub struct Record {
     pub kind: u32,
     pub t: u32,

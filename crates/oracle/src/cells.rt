@@ -6,7 +6,7 @@ use crate::choices::{Row, Seen, both, covers, nothing, row_of};
 use crate::numbers::{power, word};
 
 // The rows of at most four cells.
-#[derive(Drop)]
+#[derive(Clone, Copy)]
 pub struct Cells {
     pub mask: [u32; 4],
     pub value: [u32; 4],

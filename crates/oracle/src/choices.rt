@@ -8,14 +8,14 @@ use crate::plain::plain;
 use crate::shapes::{Shape, one_number};
 
 // A row's mask and value.
-#[derive(Drop)]
+#[derive(Clone, Copy)]
 pub struct Row {
     pub mask: u32,
     pub value: u32,
 }
 
 // The bits that some choice makes 0, and those that some choice makes 1.
-#[derive(Drop)]
+#[derive(Clone, Copy)]
 pub struct Seen {
     pub zeros: u32,
     pub ones: u32,

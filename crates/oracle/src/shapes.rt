@@ -10,7 +10,7 @@ pub const LOAD: u64 = 24;
 pub const STORE: u64 = 25;
 
 // A record's kind and parameter, and the widths of the target, the first and the second operand.
-#[derive(Drop)]
+#[derive(Clone, Copy)]
 pub struct Shape {
     pub kind: u64,
     pub wt: u64,

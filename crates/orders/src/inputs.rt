@@ -12,6 +12,7 @@ use checks::rows::check_two_vectors;
 use checks::{Verdict, refusals, refuse};
 
 // Checks 1 and 2 of two states.
+#[tactic(auto, unfolding(checks::specs::Check::verdict))]
 fn check_lengths(width: &[u8], ma: &[u32], va: &[u32], mb: &[u32], vb: &[u32]) -> Verdict
     ensures { verdict_model result ≡ judged (placed 0 (compare_shape_faults width.now (held ma.now va.now) (held mb.now vb.now))) }
 {

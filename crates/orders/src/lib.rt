@@ -1,4 +1,6 @@
 // The ordering of two whole states, row by row (02, request 12).
+#![tactic(auto)]
+
 ghost use Rattle.std.specs.Prelude.{◌≡◌};
 ghost use Rattle.checks.specs.Check.{done};
 ghost use Rattle.steps.specs.States.{held};
@@ -15,7 +17,7 @@ mod inputs; // inputs.rt: what compare_states checks first
 pub mod rows; // rows.rt: vectors and rows compared
 
 // How the first state stands to the second: equal to it, inside it, around it, or none of these.
-#[derive(Drop)]
+#[derive(Clone, Copy)]
 pub enum Order {
     Equal,
     Inside,
@@ -24,7 +26,7 @@ pub enum Order {
 }
 
 // An order, or a refusal.
-#[derive(Drop)]
+#[derive(Clone, Copy)]
 pub enum CompareAnswer {
     Ordered(Order),
     Refused(Refusal),

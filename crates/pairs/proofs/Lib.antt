@@ -1,2 +1,3 @@
 -- The laws and proofs of `pairs`.
 pub mod Targets
+pub mod Told

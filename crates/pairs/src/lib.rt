@@ -1,4 +1,6 @@
 // Check 20 of settle (02, request 12): the pairs of a state row and its next row.
+#![tactic(auto)]
+
 ghost use Rattle.std.specs.Prelude.{◌≡◌, [], ◌/◌, ◌<◌, T, eqb, length};
 ghost use Rattle.vectors.specs.Lists.{some_of};
 ghost use Rattle.operations.specs.Kinds.{is_kind};
@@ -45,6 +47,7 @@ fn written(words: &[u32], i: usize) -> bool
 }
 
 // Whether an earlier pair names the state row of pair i.
+#[tactic(auto, using(crate::proofs::Told::named_twice))]
 fn named_before(states: &[u32], i: usize) -> bool
     requires { i < length states.now }
     ensures { result ≡ state_twice states.now i }
@@ -60,6 +63,7 @@ fn named_before(states: &[u32], i: usize) -> bool
 }
 
 // Check 20 of pair i.
+#[tactic(auto, using(crate::proofs::Told::locked_refused))]
 fn check_pair(
     width: &[u8],
     lock: &[u8],
@@ -122,6 +126,7 @@ fn check_each_pair(
 }
 
 // Check 20, of a table that passed 1 to 10.
+#[tactic(auto, using(crate::proofs::Told::uneven_refused, crate::proofs::Told::even_checked))]
 pub fn check_pairs(
     width: &[u8],
     lock: &[u8],

@@ -54,6 +54,7 @@ pub fn put_number(out: &mut [u8], at: usize, n: usize) -> usize
 // ---- rows
 
 // The letter of bit `k` of a vector.
+#[tactic(auto, unfolding(bits::specs::Bit::bit))]
 fn letter_of(m: u32, v: u32, k: u32) -> u8
     requires { k < width_limit }
     ensures { result ≡ letter (bit m k) (bit v k) }

@@ -10,14 +10,14 @@ use bits::FourWords;
 use vectors::OutputBit;
 
 // One factor for each of the two vectors.
-#[derive(Drop)]
+#[derive(Clone, Copy)]
 pub struct Factors {
     pub a: u32,
     pub b: u32,
 }
 
 // The factors with the least and with the greatest column sum.
-#[derive(Drop)]
+#[derive(Clone, Copy)]
 pub struct Extremes {
     pub least: Factors,
     pub greatest: Factors,

@@ -1,4 +1,6 @@
 // One bit of the product of two vectors, and the product's vector (01, "Products"; document 002, section 7, algorithm 2).
+#![tactic(auto)]
+
 ghost use Rattle.std.specs.Prelude.{◌≡◌, [], ◌∷◌, ℕ, ◌*◌, ◌≤◌, ◌<◌, ◌^◌};
 ghost use Rattle.std.specs.Int.Bits.{bit_and};
 ghost use Rattle.bits.specs.Limits.{width_limit};

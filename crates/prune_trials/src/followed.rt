@@ -7,7 +7,7 @@ use oracle::numbers::{bit, power, truth};
 use oracle::shapes::{LOAD, STORE, uses_condition, uses_second};
 
 // Records that stay: how many, and what they are once they have moved down.
-#[derive(Drop)]
+#[derive(Clone, Copy)]
 pub struct Kept {
     pub count: u64,
     pub records: u64,

@@ -1,6 +1,8 @@
 // Small tables through `prune` (02, request 13): the records that stay are compared with those found by following forward what each record writes, and the
 // marked rows after a full run of them with those after a full run of all.
 // A table has four rows, of the widths 1, 1, 1 and 2, and four records of any kind.
+#![tactic(auto)]
+
 use drawing::{drawn_marks, drawn_records, drawn_rows};
 use followed::{Kept, staying};
 use oracle::numbers::{byte, word};

@@ -1,4 +1,6 @@
 // Tables grown out of old designs (02, request 13): prune.
+#![tactic(auto)]
+
 ghost use Rattle.std.specs.Prelude.{◌≡◌, ℕ};
 ghost use Rattle.checks.specs.Check.{done, placed};
 ghost use Rattle.checks.specs.Model.{lent, verdict_model, judged};
@@ -13,13 +15,14 @@ use table_checks::check_run;
 mod passes; // passes.rt: the pass back and the pass forward
 
 // How many records stay, or a refusal.
-#[derive(Drop)]
+#[derive(Clone, Copy)]
 pub enum PruneAnswer {
     Records(usize),
     Refused(Refusal),
 }
 
 // Check 21, of a table of that many rows.
+#[tactic(auto, using(crate::proofs::MarkVerdicts::marks_uneven, crate::proofs::MarkVerdicts::mark_too_big))]
 fn check_marks(rows: usize, marks: &[u8]) -> Verdict
     ensures { verdict_model result ≡ judged (placed 0 (mark_faults rows marks.now)) }
 {

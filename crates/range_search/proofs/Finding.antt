@@ -2,7 +2,7 @@
 use mathlib.Core.Path.{◌≡◌}
 use Prim.Native.Nat.{ℕ, ◌+◌, ◌-◌, ◌≤◌, ◌<◌}
 use native.Mathlib.Omega.{arith}
-use Rattle.vectors.specs.Row.{Row, WellFormed, Covers}
+use Rattle.vectors.specs.Row.{Row, row, WellFormed, Covers}
 use Rattle.vectors.proofs.Rows.{top, value-least, top-greatest}
 use Rattle.range_search.specs.declared.InRange.TheVariants.{Found, Empty}
 use Rattle.range_search.specs.Extremes.{Least, Greatest}
@@ -61,3 +61,7 @@ module _ (r : Row) (F : WellFormed r) (low high : ℕ) where
               smallest_is = smallest_is;
               largest_is = largest_is;
             })
+
+-- the same with the vector's parts for variables
+pub none_above : (w m v low high s : ℕ) → WellFormed (row w m v) → low ≤ top (row w m v) → Greatest (PartUpTo m (top (row w m v) - low)) s → high < top (row w m v) - s → Empty ≡ in_range_of (row w m v) low high
+none_above w m v low high s F h S above = none-to (row w m v) F low high s h S above

@@ -1,5 +1,6 @@
 -- The laws and proofs of `range_search`.
 pub mod Extremes
+pub mod Places
 pub mod Parts
 pub mod Covered
 pub mod Differing

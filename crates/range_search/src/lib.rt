@@ -1,4 +1,6 @@
 // The numbers between two ends that a vector covers (02, request 8): the smallest, the largest, and the best vector for all of them.
+#![tactic(auto)]
+
 ghost use Rattle.std.specs.Prelude.{◌≡◌, ◌^◌, ◌≤◌, ◌<◌};
 ghost use Rattle.vectors.specs.Row.{row, WellFormed};
 ghost use Rattle.range_search.specs.Extremes.{Greatest};
@@ -8,6 +10,7 @@ ghost use Rattle.range_search.specs.Encoding.{taken, PartUpTo, spanned};
 use vectors::Vector;
 
 // Bit k of the mask where it is at most room, else 0.
+#[tactic(auto, using(crate::proofs::Places::at_place))]
 fn fitting_bit(m: u32, k: u32, room: u32) -> u32
     requires { k < 32 }
     ensures { result ≡ taken m k room }
@@ -47,7 +50,7 @@ fn span(m: u32, a: u32, b: u32) -> Vector
 }
 
 // The best vector for a set of numbers, and the smallest and the largest of them.
-#[derive(Drop)]
+#[derive(Clone, Copy)]
 pub struct Range {
     pub mask: u32,
     pub value: u32,
@@ -56,13 +59,14 @@ pub struct Range {
 }
 
 // These, or that the set is empty.
-#[derive(Drop)]
+#[derive(Clone, Copy)]
 pub enum InRange {
     Found(Range),
     Empty,
 }
 
 // The numbers from low to high that a vector covers. A covered number is the vector's value and a part of its mask, or value and mask less a part of it.
+#[tactic(auto, using(crate::proofs::Finding::none_above))]
 pub fn in_range(w: u32, m: u32, v: u32, low: u32, high: u32) -> InRange
     requires { (w ≤ 32) × WellFormed (row w m v) }
     ensures { result ≡ in_range_of (row w m v) low high }

@@ -13,7 +13,8 @@ use borrow.Author.Tests.{ne_eqb}
 use Rattle.bits.specs.Counted.{listed, rising}
 use Rattle.operations.specs.Record.{width_at}
 use Rattle.checks.specs.Table.{State, Table, start_of, with_rows}
-use Rattle.steps.specs.States.{StateFits}
+use Rattle.checks.specs.Model.{lent}
+use Rattle.steps.specs.States.{StateFits, held}
 use Rattle.tables.proofs.FullRuns.{accepted-from, full-ready}
 use Rattle.conclusions.specs.declared.Conclusion.{Conclusion}
 use Rattle.conclusions.specs.Pass.{position, bits_in, visit, walk, pass_rows}
@@ -113,3 +114,10 @@ module _ (t : Table) (c : Conclusion) where
 
   pub row-end : (i : ℕ) (s : State) → length t.widths ≤ i → AtRow t c i s → s ≡ pass_rows t c
   row-end i s h I = sym (I.rest_is ∙ rows_end t c i s h)
+
+-- ---- rows that are left alone, with the slices for variables
+
+-- those of a locked row
+pub locked_row : (widths locks masks values words : List ℕ) (c : Conclusion) (i : ℕ) → get_or locks i 0 ≢ 0
+    → held masks values ≡ walk (lent widths locks masks values words) c (bits_in (lent widths locks masks values words) i) (held masks values)
+locked_row widths locks masks values words c i d = bit-none (lent widths locks masks values words) c i d

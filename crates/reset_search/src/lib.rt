@@ -1,4 +1,6 @@
 // Which start bits a conclusion rests on (02, request 9): the pass, for a caller that has checked.
+#![tactic(auto)]
+
 ghost use Rattle.std.specs.Prelude.{◌≡◌, List, ℕ, ◌<◌, length};
 ghost use Rattle.checks.specs.Accepted.{Accepted};
 ghost use Rattle.checks.specs.Table.{start_of, record_count};
@@ -65,6 +67,7 @@ fn visit(
 }
 
 // The bits of row i, rising, if it is open.
+#[tactic(auto, using(crate::proofs::Passes::locked_row))]
 fn visit_row(
     width: &[u8],
     lock: &[u8],

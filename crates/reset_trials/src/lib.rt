@@ -1,4 +1,6 @@
 // Small tables through `reset_bits`, each compared with plain enumeration of every set of bits that could be left unset.
+#![tactic(auto)]
+
 ghost use Rattle.std.specs.Prelude.{◌<◌};
 
 use checks::refusals;
@@ -14,7 +16,7 @@ pub mod sweeps; // sweeps.rt: the tables tried
 
 // A table of such rows, of which rows 0 to 2 may be locked (bits 0 to 2), and two records of these kinds, which write row 3: the first has the operand rows 0 and
 // 1, the second 3 and 2. A bit of row 3 is named.
-#[derive(Drop)]
+#[derive(Clone, Copy)]
 struct Question {
     rows: Rows,
     locked: u64,

@@ -1,4 +1,6 @@
 // Which reset bits a conclusion rests on (02, request 9): reset_bits.
+#![tactic(auto)]
+
 ghost use Rattle.std.specs.Prelude.{◌≡◌, ℕ};
 ghost use Rattle.checks.specs.Check.{done};
 ghost use Rattle.checks.specs.Model.{lent, verdict_model, judged};
@@ -20,7 +22,7 @@ use table_checks::{check_row_named, check_run};
 use tables::stepping::step_all;
 
 // The value of the bit, or a refusal.
-#[derive(Drop)]
+#[derive(Clone, Copy)]
 pub enum ResetAnswer {
     Value(u32),
     Refused(Refusal),

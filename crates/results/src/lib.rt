@@ -1,4 +1,6 @@
 // The result of a record without cells: from the dispatch, or at hand where its words a and b name one row and both operands are one number.
+#![tactic(auto)]
+
 ghost use Rattle.std.specs.Prelude.{◌≡◌, not, [], ◌∷◌, ◌≤◌, T};
 ghost use Rattle.bits.specs.Limits.{width_limit};
 ghost use Rattle.vectors.specs.Row.{row};

@@ -1,4 +1,6 @@
 // Clock after clock until it settles (02, request 12): rounds over definitions, and the end of a round on rows.
+#![tactic(auto)]
+
 ghost use Rattle.std.specs.Prelude.{◌≡◌, List, ℕ, ◌<◌, length};
 ghost use Rattle.checks.specs.Table.{row_at};
 ghost use Rattle.steps.specs.Step.{put};

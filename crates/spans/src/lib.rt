@@ -1,4 +1,6 @@
 // The rows of a span, tested one after another: their widths, and their marks (02, request 11).
+#![tactic(auto)]
+
 ghost use Rattle.std.specs.Prelude.{◌≡◌, ◌+◌, ◌≤◌, eqb, length, get_or};
 ghost use Rattle.vectors.specs.Lists.{all_of, some_of};
 ghost use Rattle.operations.specs.Memory.{span};

@@ -1,4 +1,6 @@
 // What a record does to the rows and to the numbers of a plain run, over definitions; and rows copied, for calls that work on rows of their own.
+#![tactic(auto)]
+
 ghost use Rattle.std.specs.Prelude.{◌≡◌};
 ghost use Rattle.steps.specs.States.{held};
 ghost use Rattle.steps.specs.Encoding.{Copyable};

@@ -1,5 +1,7 @@
 // add, sub and neg on the planes of masks and values (01, "Sums" and "Code places and language forms").
 // Wrapping sums of the least and of the greatest operands, then cut to the width: no loop over bits.
+#![tactic(auto)]
+
 ghost use Rattle.std.specs.Prelude.{◌≡◌, ◌-◌, ◌%◌, ◌^◌, ◌≤◌, [], ◌∷◌, bit_and, bit_or, bit_xor};
 ghost use Rattle.bits.specs.Limits.{width_limit};
 ghost use Rattle.vectors.specs.Row.{row};

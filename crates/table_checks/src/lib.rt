@@ -1,4 +1,6 @@
 // Tables: the checks of a whole table, for size, run and count.
+#![tactic(auto)]
+
 ghost use Rattle.std.specs.Prelude.{◌≡◌, [], ◌≤◌, length};
 ghost use Rattle.checks.specs.Limits.{row_limit};
 ghost use Rattle.checks.specs.Check.{placed};
@@ -13,6 +15,7 @@ use checks::{Verdict, refusals, refuse};
 use operations::RECORD_WORDS;
 
 // Checks 1 and 2.
+#[tactic(auto, unfolding(checks::specs::Check::verdict))]
 pub fn check_shape(width: &[u8], lock: &[u8], mask: &[u32], value: &[u32]) -> Verdict
     ensures { let table = lent width.now lock.now mask.now value.now [] in
         verdict_model result ≡ judged (placed 0 (row_shape_faults table)) }
@@ -103,6 +106,7 @@ pub fn check_table(width: &[u8], lock: &[u8], mask: &[u32], value: &[u32], words
 }
 
 // Check 3, of the stretch.
+#[tactic(auto, unfolding(checks::specs::Check::verdict))]
 fn check_stretch(words: &[u32], first: usize, last: usize) -> Verdict
     ensures { verdict_model result ≡ judged (placed 0 (stretch_faults (lent [] [] [] [] words.now) first last)) }
 {

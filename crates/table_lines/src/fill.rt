@@ -13,7 +13,7 @@ use lines::line::{Found, line};
 use operations::{RECORD_WORDS, Record, put_record};
 
 // The number of the first bad line, or 0 and the counts of row lines and record lines.
-#[derive(Drop)]
+#[derive(Clone, Copy)]
 pub struct Tally {
     pub bad: usize,
     pub rows: usize,

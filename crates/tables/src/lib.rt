@@ -1,4 +1,6 @@
 // Tables: run and count.
+#![tactic(auto)]
+
 ghost use Rattle.std.specs.Prelude.{◌≡◌, []};
 ghost use Rattle.checks.specs.Check.{done};
 ghost use Rattle.checks.specs.Model.{lent};
@@ -16,7 +18,7 @@ use table_checks::{check_count, check_run};
 pub mod stepping; // stepping.rt: what records do to the rows
 
 // The unknown bits u of a row, and 2^u.
-#[derive(Drop)]
+#[derive(Clone, Copy)]
 pub enum CountAnswer {
     Counted(u32, u64),
     Refused(Refusal),
@@ -37,7 +39,7 @@ pub fn count(width: &[u8], lock: &[u8], mask: &[u32], value: &[u32], row: usize)
 }
 
 // The answer of run: last, or a refusal.
-#[derive(Drop)]
+#[derive(Clone, Copy)]
 pub enum RunAnswer {
     Done(usize),
     Refused(Refusal),

@@ -1,4 +1,6 @@
 // The text of a table: size, write, read and field (01, "Calls" and "Text"; 02, request 11).
+#![tactic(auto)]
+
 ghost use Rattle.std.specs.Prelude.{◌≡◌};
 ghost use Rattle.checks.specs.Model.{lent};
 ghost use Rattle.grammar.specs.Cut.{field_of};
@@ -22,7 +24,7 @@ use table_lines::print::{put_records, put_rows};
 pub mod limits; // limits.rt: numbers that 01 sets
 
 // A number of bytes.
-#[derive(Drop)]
+#[derive(Clone, Copy)]
 pub enum BytesAnswer {
     Bytes(usize),
     Refused(Refusal),
@@ -75,7 +77,7 @@ pub fn write(
 }
 
 // The counts of rows and of records.
-#[derive(Drop)]
+#[derive(Clone, Copy)]
 pub enum ReadAnswer {
     Read(usize, usize),
     Refused(Refusal),

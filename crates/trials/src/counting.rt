@@ -1,7 +1,7 @@
 // Tables tried, and tables that disagree.
 
 // The tables tried, and those among them on which run and the enumeration disagree.
-#[derive(Drop)]
+#[derive(Clone, Copy)]
 pub struct Tally {
     pub tried: u64,
     pub wrong: u64,

@@ -1,4 +1,6 @@
 // One table of four rows and one record: run, and compared.
+#![tactic(auto)]
+
 ghost use Rattle.std.specs.Prelude.{◌≡◌, length};
 ghost use Rattle.oracle.specs.Sizes.{Sized};
 
@@ -11,7 +13,7 @@ pub mod counting; // counting.rt: tables tried and tables that disagree
 pub mod examples; // examples.rt: worked examples
 
 // The rows' masks and values: 0 and 1 the operands, 2 the condition, 3 the target.
-#[derive(Drop)]
+#[derive(Clone, Copy)]
 struct Rows {
     mask: [u32; 4],
     value: [u32; 4],

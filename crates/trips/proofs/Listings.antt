@@ -57,6 +57,6 @@ unfolding read_of read_checks verdict pieces all_of same numeral is_vector line_
 later-header = (refl, refl)
 
 -- Z without the header, and a small letter
-other-letter : Bad (bytes "row\topen\t1\nrow\topen\t_z\n") 2 × Bad (bytes "edition\t2\nrow\topen\t_h\nrow\topen\th\n") 3
+other-letter : Bad (bytes "row\topen\t1\nrow\topen\tZ\n") 2 × Bad (bytes "edition\t2\nrow\topen\tH\nrow\topen\th\n") 3
 unfolding read_of read_checks verdict pieces all_of same numeral is_vector line_of headed_by lines_of lines_in first_bad rows_in words_in table_in
 other-letter = (refl, refl)

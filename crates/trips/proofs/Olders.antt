@@ -38,6 +38,6 @@ abbrev Bad : List ℕ → ℕ → Type 0
 Bad text n = ◌≡◌ {A = ReadBack} (read_of text slices) (record { answer = refused 12 n; slices = slices })
 
 -- a load, and five numbers, in edition 1; four numbers, and Z, in edition 3
-other-lines : Bad (bytes "op\tload\t0\t0\t0\t1\n") 1 × Bad (bytes "op\tnot\t0\t0\t0\t0\t0\n") 1 × Bad (bytes "edition\t3\nop\tnot\t0\t0\t0\t0\n") 2 × Bad (bytes "edition\t3\nrow\topen\t_z\n") 2
+other-lines : Bad (bytes "op\tload\t0\t0\t0\t1\n") 1 × Bad (bytes "op\tnot\t0\t0\t0\t0\t0\n") 1 × Bad (bytes "edition\t3\nop\tnot\t0\t0\t0\t0\n") 2 × Bad (bytes "edition\t3\nrow\topen\tZ\n") 2
 unfolding read_of read_checks verdict pieces all_of same numeral is_number number_of is_vector line_of headed_by lines_of lines_in first_bad rows_in words_in table_in kinds kind_of
 other-lines = (refl, refl, refl, refl)

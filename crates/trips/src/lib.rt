@@ -1,4 +1,6 @@
 // The round trips through the text over the calls themselves (demand 2): each contract is the round trip.
+#![tactic(auto)]
+
 ghost use Rattle.checks.specs.Model.{lent};
 ghost use Rattle.trips.specs.Trips.{TableBack, FormBack, BytesBack};
 ghost use Rattle.texts.specs.Model.{write_left, read_left};

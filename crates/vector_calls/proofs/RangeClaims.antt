@@ -30,9 +30,9 @@ use Rattle.vector_calls.proofs.RangeRuns.{runs_on}
 -- ---- 17
 
 module _ (w low high : ℕ) where
-  pub ends-exchanged : high < low → judged (placed 0 (end_faults w low high)) ≡ refused 17 0
+  pub exchanged_refused : high < low → judged (placed 0 (end_faults w low high)) ≡ refused 17 0
   unfolding verdict
-  ends-exchanged h = simp (lt-ltb high low h)
+  exchanged_refused h = simp (lt-ltb high low h)
 
   pub end-over : low ≤ high → 2 ^ w ≤ high → judged (placed 0 (end_faults w low high)) ≡ refused 17 0
   unfolding verdict

@@ -49,6 +49,7 @@ pub fn check_operation(
 }
 
 // Check 17 of two ends at a width that passed check 4. Where the ends are in order, both are below 2^w if the high one is.
+#[tactic(auto, using(crate::proofs::RangeClaims::exchanged_refused))]
 fn check_ends(width: u32, low: u64, high: u64) -> Verdict
     requires { (1 ≤ width) × (width ≤ width_limit) }
     ensures { verdict_model result ≡ judged (placed 0 (end_faults width low high)) }

@@ -1,4 +1,6 @@
 // Calls on bare vectors, which stand in no table (02, requests 6, 7 and 8): every refusal has place 0.
+#![tactic(auto)]
+
 ghost use Rattle.std.specs.Prelude.{◌≡◌, ◌↔◌};
 ghost use Rattle.vectors.specs.Row.{row};
 ghost use Rattle.witness_search.specs.declared.Pair.{Pair};
@@ -22,7 +24,7 @@ use witness_search::{Operands, Pair, operation_bit, witness};
 mod inputs; // inputs.rt: what the calls check first
 
 // One bit of a result, or a refusal.
-#[derive(Drop)]
+#[derive(Clone, Copy)]
 pub enum BitAnswer {
     Bit(OutputBit),
     Refused(Refusal),
@@ -39,7 +41,7 @@ pub fn product_bit(width: u32, ma: u32, va: u32, mb: u32, vb: u32, bit: u32) -> 
 }
 
 // Two pairs of operands, of which the first makes the bit 0 and the second 1, or a refusal.
-#[derive(Drop)]
+#[derive(Clone, Copy)]
 pub enum WitnessAnswer {
     Pairs(Pair, Pair),
     Refused(Refusal),
@@ -83,7 +85,7 @@ pub fn witnesses(
 }
 
 // The best vector covering the numbers between two ends, with the smallest and the largest of them, or a refusal.
-#[derive(Drop)]
+#[derive(Clone, Copy)]
 pub enum RangeAnswer {
     Found(Range),
     Refused(Refusal),

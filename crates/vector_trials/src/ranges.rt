@@ -10,7 +10,7 @@ use trials::counting::{Tally, joined, none, one};
 use vector_calls::{RangeAnswer, range};
 
 // The numbers met so far: whether there are any, the first and the last of them, and their bits.
-#[derive(Drop)]
+#[derive(Clone, Copy)]
 struct Numbers {
     any: bool,
     first: u64,

@@ -4,12 +4,16 @@ use mathlib.Core.Bool.{cond}
 use mathlib.Core.Logic.{inl, inr}
 use Prim.Native.Nat.{ℕ}
 use lib.Dec.{eqb}
+use Prim.Native.Nat.{◌/◌, ◌^◌}
+use mathlib.Core.Logic.{◌≢◌}
+use lib.Bits.{bit_and}
 use Rattle.bits.specs.Bit.{bit, is_set}
 use Rattle.bits.proofs.Bits.{bit-cases}
 use Rattle.bits.proofs.Numbers.{is_set-true}
 use Rattle.vectors.specs.declared.OutputBit.{OutputBit}
 use Rattle.vectors.specs.declared.OutputBit.TheVariants.{Zero, One, Unknown}
-use Rattle.vectors.specs.Row.{Row}
+use Rattle.bits.proofs.Words.{bit_word}
+use Rattle.vectors.specs.Row.{Row, row}
 use Rattle.vectors.specs.OutputBits.{output_bit, output_mask}
 
 pub output-unknown : (r : Row) (k : ℕ) → bit r.mask k ≡ 1 → output_bit r k ≡ Unknown
@@ -32,3 +36,20 @@ mask-bit-of r k b u eb eu =
         | inr f ↦ ap output_mask (output-known r k 1 e f) ∙ sym e
       ]
     ]
+
+-- ---- one bit of a vector, by tests of the words shifted
+
+set-word : (n k : ℕ) → bit_and (n / 2 ^ k) 1 ≡ 1 → bit n k ≡ 1
+set-word n k e = sym (bit_word n k) ∙ e
+
+clear-word : (n k : ℕ) → bit_and (n / 2 ^ k) 1 ≢ 1 → bit n k ≡ 0
+clear-word n k d = elim (bit-cases n k) [ inl e ↦ e | inr e ↦ absurd (d (bit_word n k ∙ e)) ]
+
+pub told_unknown : (w m v k : ℕ) → bit_and (m / 2 ^ k) 1 ≡ 1 → output_bit (row w m v) k ≡ Unknown
+told_unknown w m v k e = output-unknown (row w m v) k (set-word m k e)
+
+pub told_one : (w m v k : ℕ) → bit_and (m / 2 ^ k) 1 ≢ 1 → bit_and (v / 2 ^ k) 1 ≡ 1 → output_bit (row w m v) k ≡ One
+told_one w m v k d e = output-known (row w m v) k 1 (clear-word m k d) (set-word v k e)
+
+pub told_zero : (w m v k : ℕ) → bit_and (m / 2 ^ k) 1 ≢ 1 → bit_and (v / 2 ^ k) 1 ≢ 1 → output_bit (row w m v) k ≡ Zero
+told_zero w m v k d e = output-known (row w m v) k 0 (clear-word m k d) (clear-word v k e)

@@ -1,17 +1,19 @@
 // What kernels exchange: a vector's two planes, and one output bit.
+#![tactic(auto)]
+
 ghost use Rattle.std.specs.Prelude.{◌≡◌, ℕ, ◌/◌, ◌%◌, ◌^◌, ◌<◌};
 ghost use Rattle.vectors.specs.Row.{row};
 ghost use Rattle.vectors.specs.OutputBits.{output_bit};
 
 // Mask and value of a vector; the width stands beside it.
-#[derive(Drop)]
+#[derive(Clone, Copy)]
 pub struct Vector {
     pub mask: u32,
     pub value: u32,
 }
 
 // One bit of a result: known as 0, known as 1, or unknown.
-#[derive(Drop)]
+#[derive(Clone, Copy)]
 pub enum OutputBit {
     Zero,
     One,
@@ -19,6 +21,7 @@ pub enum OutputBit {
 }
 
 // Bit k of a vector, whatever its width.
+#[tactic(auto, using(crate::proofs::Told::told_unknown, crate::proofs::Told::told_one, crate::proofs::Told::told_zero))]
 pub fn bit_of(m: u32, v: u32, k: u32) -> OutputBit
     requires { k < 32 }
     ensures { (w : ℕ) → result ≡ output_bit (row w m v) k }

@@ -1,5 +1,7 @@
 // Products as wide as both operands (02, request 4): one kernel over two signs.
 // An operand is extended to the product's width and multiplied there. A sign that is unknown is taken apart: as 0 and as 1.
+#![tactic(auto)]
+
 ghost use Rattle.std.specs.Prelude.{◌≡◌, [], ◌∷◌, ℕ, ◌/◌, ◌%◌, ◌^◌, ◌≤◌};
 ghost use Rattle.std.specs.Int.Bits.{bit_and};
 ghost use Rattle.bits.specs.Limits.{width_limit};

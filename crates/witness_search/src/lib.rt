@@ -1,5 +1,7 @@
 // Operands that two vectors cover and that make a bit of their sum, difference or product 0, or 1 (02, request 7). The unknown bits become known one by one:
 // as 0 where the bit can then still be what is sought, else as 1.
+#![tactic(auto)]
+
 ghost use Rattle.std.specs.Prelude.{◌≡◌, [], ◌∷◌, ◌≤◌, ◌<◌};
 ghost use Rattle.vectors.specs.OutputBits.{output_bit};
 ghost use Rattle.operations.specs.Kinds.{kind_of};
@@ -32,7 +34,7 @@ pub fn is_add_sub_mul(kind: u32) -> bool
 }
 
 // Two vectors of one width.
-#[derive(Drop)]
+#[derive(Clone, Copy)]
 pub struct Operands {
     pub ma: u32,
     pub va: u32,
@@ -41,7 +43,7 @@ pub struct Operands {
 }
 
 // Two plain operands.
-#[derive(Drop)]
+#[derive(Clone, Copy)]
 pub struct Pair {
     pub a: u32,
     pub b: u32,

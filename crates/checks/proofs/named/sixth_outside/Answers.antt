@@ -1,0 +1,7 @@
+-- `checks::named::sixth_outside` meets its contract: the code that the kind has. Assumes nothing.
+use Rattle.operations.specs.Kinds.{kind_of}
+use Rattle.operations.proofs.Sound.{sixth-plain}
+use Rattle.checks.proofs.named.sixth_outside.Goals as goal
+
+pub returns : goal.returns
+returns c = c.word_outside.ensures (kind_of c.args.r.kind).use_c (sixth-plain c.args.r.kind c.requires.0 c.requires.1) c.sixth_use.ensures

@@ -1,0 +1,34 @@
+-- `lines::cut::start_of`: at each turn what is passed, and what is left to pass, make up the start of the part. Assumes nothing.
+use mathlib.Core.Path.{◌≡◌, refl}
+use Prim.Native.Nat.{◌<◌, ◌-◌}
+use native.Mathlib.Omega.{arith}
+use lib.ListN.{length, drop}
+use Rattle.grammar.specs.Cut.{past}
+use Rattle.lines.proofs.Scans.{past_next, past_end, past-now, start-zero, start-here}
+use Rattle.lines.proofs.cut.start_of.Goals as goal
+
+pub returns-then-n-eq0 : goal.returns-then-n-eq0
+returns-then-n-eq0 c = (start-zero c.args.text.now c.args.sep c.args.n c.if-n-eq0.true, omega arith)
+
+pub returns-then-e-len : goal.returns-then-e-len
+returns-then-e-len c =
+    let e = c.end_of-e.result in
+    let text = c.args.text.now in
+    let len : e ≡ length text = c.if-e-len.true in
+    let start : e ≡ past c.args.sep (c.args.n - 1) text =
+    omega (arith, past_end text c.args.sep c.loop-left.at e c.loop-left.invariant.0 c.end_of-e.ensures.0 c.loop-left.left c.loop-left-test.true len, c.loop-left.invariant.2) in
+    (start-here text c.args.sep c.args.n e c.if-n-eq0.false start, c.end_of-e.ensures.1)
+
+pub loop-left-preserved : goal.loop-left-preserved
+loop-left-preserved c =
+    let e = c.end_of-e.result in
+    let text = c.args.text.now in
+    let l : e < length text = omega (arith, c.end_of-e.ensures.1, c.if-e-len.false) in
+    (omega arith, refl, omega (arith, past_next text c.args.sep c.loop-left.at e c.loop-left.invariant.0 c.end_of-e.ensures.0 c.loop-left.left c.loop-left-test.true l, c.loop-left.invariant.2))
+
+pub returns : goal.returns
+returns c =
+    let text = c.args.text.now in
+    let start : c.loop-left.at ≡ past c.args.sep (c.args.n - 1) text =
+    omega (arith, c.loop-left.invariant.2, past-now (drop c.loop-left.at text) c.args.sep c.loop-left.left c.loop-left-test.false) in
+    (start-here text c.args.sep c.args.n c.loop-left.at c.if-n-eq0.false start, c.loop-left.invariant.0)

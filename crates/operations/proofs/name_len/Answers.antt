@@ -1,0 +1,20 @@
+-- `operations::name_len` meets its contract: the words compute to the digits of the kinds. Assumes nothing.
+use mathlib.Core.Path.{ap₂, ◌∙◌}
+use Prim.Native.Nat.{ℕ, ◌+◌, ◌*◌}
+use native.Mathlib.Omega.{arith}
+use Rattle.operations.proofs.Lookup.{kinds-few, kind-below}
+use Rattle.operations.proofs.Digits.{pairs_of, length-is}
+use Rattle.operations.proofs.name_len.Goals as goal
+
+pub overflow_cast-k : goal.overflow_cast-k
+overflow_cast-k c = record { fits = omega (arith, kinds-few, kind-below c.args.kind c.requires) }
+
+pub digit-requires : goal.digit-requires
+digit-requires c = omega (arith, kinds-few, kind-below c.args.kind c.requires)
+
+pub digit-requires-2 : goal.digit-requires-2
+digit-requires-2 c = omega (arith, kinds-few, kind-below c.args.kind c.requires)
+
+pub returns : goal.returns
+unfolding pairs_of
+returns c = ap₂ (λ (x y : ℕ). x + y * 4) c.digit.ensures c.digit-2.ensures ∙ length-is c.args.kind c.requires

@@ -1,0 +1,13 @@
+-- `operations::second_use` meets its contract: the word computes to the digits of the kinds. Assumes nothing.
+use mathlib.Core.Path.{◌∙◌}
+use native.Mathlib.Omega.{arith}
+use Rattle.operations.proofs.Lookup.{kinds-few, kind-below}
+use Rattle.operations.proofs.Digits.{digits_of, second_is}
+use Rattle.operations.proofs.second_use.Goals as goal
+
+pub digit-requires : goal.digit-requires
+digit-requires c = omega (arith, kinds-few, kind-below c.args.kind c.requires)
+
+pub returns : goal.returns
+unfolding digits_of
+returns c = c.digit.ensures ∙ second_is c.args.kind c.requires

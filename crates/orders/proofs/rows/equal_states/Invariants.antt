@@ -1,0 +1,20 @@
+-- `orders::rows::equal_states` meets its contract. The invariant: every row before i is equal. Assumes nothing.
+use mathlib.Core.Path.{◌≡◌}
+use mathlib.Core.Bool.{Bool, true}
+use mathlib.Core.List.{List}
+use Prim.Native.Nat.{ℕ, ◌-◌, ◌≤◌, ◌<◌}
+use lib.ListN.{length}
+use Rattle.checks.specs.Table.{row_at}
+use Rattle.steps.specs.States.{held}
+use Rattle.orders.specs.Order.{equal_row}
+use Rattle.orders.proofs.rows.equal_states.Given as goal
+
+abbrev test : List ℕ → List ℕ → List ℕ → List ℕ → List ℕ → ℕ → Bool
+test width ma va mb vb i = equal_row (row_at width (held ma va) i) (row_at width (held mb vb) i)
+
+abbrev pub invariant-loop-i : goal.invariant-loop-i
+invariant-loop-i l = (length l.ma ≡ length l.width) × (length l.va ≡ length l.width) × (length l.mb ≡ length l.width) × (length l.vb ≡ length l.width) × (l.i ≤ length l.width)
+    × ((j : ℕ) → j < l.i → test l.width l.ma l.va l.mb l.vb j ≡ true)
+
+abbrev pub decreases-loop-i : goal.decreases-loop-i
+decreases-loop-i l = length l.width - l.i

@@ -1,0 +1,7 @@
+-- `tables::stepping::condition_row` meets its contract: the code that the kind has. Assumes nothing.
+use borrow.Author.Rules.{rules}
+use Rattle.operations.specs.Kinds.{kind_of}
+use Rattle.tables.proofs.stepping.condition_row.Goals as goal
+
+pub returns : goal.returns
+returns c = c.used_row.ensures (kind_of c.args.r.kind).use_c c.sixth_use.ensures
