@@ -1,7 +1,8 @@
 # Takes the files of crates/ apart. One line for each thing found, its fields parted by tabs:
 #   kind, crate, file, name, lines, text
-# kind: definition (a name of specs/), law (a name of proofs/), proof (a function's proof, one file), promise (a function's contract),
-# case (a case of a data type, its text the type's name), type (a struct or enum of src/), use (an import).
+# kind: definition (a name of specs/), law (a name of proofs/), proof (a file of a function's proof: Proof.antt as FUNCTION, Invariants.antt and
+# Answers.antt as FUNCTION/Invariants and FUNCTION/Answers), promise (a function's contract), case (a case of a data type, its text the type's name),
+# type (a struct or enum of src/), use (an import).
 # The text has no comments, and its white space is single spaces; lines are those with text.
 # Run by tools/landing and tools/believe with LC_ALL=C, on crates/*/specs/*.antt, crates/*/proofs/**/*.antt and crates/*/src/*.rt.
 
@@ -28,10 +29,10 @@ function begin_file(    parts, n) {
     depth = 0; opening = 0; in_function = 0; in_type = 0
     skip = (parts[n] == "Lib.antt")
     sort = (folder == "specs") ? "definition" : "law"
-    if (folder == "proofs" && parts[n] == "Proof.antt") {
+    if (file ~ /^proofs\/.+\/(Proof|Invariants|Answers)\.antt$/) {
         sort = "proof"
         name = substr(file, length("proofs/") + 1)
-        sub(/\/Proof\.antt$/, "", name)
+        sub(/(\/Proof)?\.antt$/, "", name)
     }
 }
 

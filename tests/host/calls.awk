@@ -5,7 +5,7 @@
 #
 # Every instruction that can be reached is followed with the bytes of stack at it. What is not understood fails, with its place: a cycle of
 # calls, a call or a jump through a register or a table (save a jump into its own function by a table of offsets, as a compiler
-# lays out a choice), a call of what is not in the archive, a stack pointer that is set by anything but push, pop and constants, and an
+# lays out a choice), a call of what is not in the archive (save those that -v also='NAME ..' names), a stack pointer that is set by anything but push, pop and constants, and an
 # instruction that is reached with two sizes of the stack. Each failure is one line, and the exit status is then 1.
 
 function fail(text) {
@@ -30,6 +30,21 @@ function reach(i, size, from) {
         fail(place(i) " is reached with " bytes[i] " and with " size " bytes of stack")
 }
 
+# What a relocation names, and whether it is one of the functions of the C library that may be called: leaves, of which a return address is counted alone.
+function called(text) {
+    sub(/[-+]0x[0-9a-f]+$/, "", text)
+    return text
+}
+function is_leaf(name,    k, names, n) {
+    n = split(also, names, " ")
+    for (k = 1; k <= n; k++)
+        if (names[k] == name) {
+            own[name] = 8
+            return 1
+        }
+    return 0
+}
+
 # The function of instruction i calls what i names, with so many bytes on the stack.
 function calls(i, size,    to, name) {
     if (i in moved) {
@@ -37,7 +52,8 @@ function calls(i, size,    to, name) {
         name = to in known ? to : entry[to, added(moved[i]) + 4]
     } else
         name = entry[home[of[i]], number(operands[i])]
-    if (!(name in first)) {
+    if (!(name in first) && (i in moved) && is_leaf(called(moved[i]))) name = called(moved[i])
+    else if (!(name in first)) {
         fail(place(i) " " moved[i] ": what is called is not in the archive")
         return
     }
