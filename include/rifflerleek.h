@@ -35,9 +35,9 @@
  * Answers. Every call returns by an answer, of one of the two structs below, on every input. A refusal leaves every slice as it was
  * lent.
  *
- * Memory and threads. A call uses what it is lent and some stack, at most RIFFLERLEEK_STACK_LIMIT bytes. It allocates nothing and
- * keeps nothing between calls, so calls may run on several threads at once, if no slice that one of them may write overlaps a slice
- * of another.
+ * Memory and threads. A call uses what it is lent and some stack, at most RIFFLERLEEK_STACK_LIMIT bytes and what memcpy and memset of
+ * the C library take themselves. It allocates nothing and keeps nothing between calls, so calls may run on several threads at once, if
+ * no slice that one of them may write overlaps a slice of another.
  *
  * The library is for x86-64 Linux.
  */
@@ -53,7 +53,7 @@ extern "C" {
 
 /* Rises by one with every change that a host can see: of a name, a number, a call, an answer or a lent byte. The header that had
  * no version is version 1. CHANGELOG.md names the changes. */
-#define RIFFLERLEEK_VERSION 14
+#define RIFFLERLEEK_VERSION 15
 
 /* Limits. */
 #define RIFFLERLEEK_ROW_LIMIT 256      /* rows in a table */
