@@ -53,7 +53,7 @@ extern "C" {
 
 /* Rises by one with every change that a host can see: of a name, a number, a call, an answer or a lent byte. The header that had
  * no version is version 1. CHANGELOG.md names the changes. */
-#define RIFFLERLEEK_VERSION 15
+#define RIFFLERLEEK_VERSION 16
 
 /* Limits. */
 #define RIFFLERLEEK_ROW_LIMIT 256      /* rows in a table */
@@ -80,22 +80,22 @@ extern "C" {
  * tests/host/depth reads both off the machine code of the archive and compares them with these; they are not proved.
  *
  *   call                     depth  stack
- *   rifflerleek_run              5    520
+ *   rifflerleek_run              5    588
  *   rifflerleek_count            1     57
- *   rifflerleek_size             3    308
- *   rifflerleek_write            3    420
- *   rifflerleek_read             4    456
- *   rifflerleek_field            1     16
- *   rifflerleek_product_bit      2    152
- *   rifflerleek_witnesses        3    264
+ *   rifflerleek_size             3    400
+ *   rifflerleek_write            3    512
+ *   rifflerleek_read             4    472
+ *   rifflerleek_field            1     32
+ *   rifflerleek_product_bit      2    156
+ *   rifflerleek_witnesses        3    284
  *   rifflerleek_range            1     64
- *   rifflerleek_reset_bits       5   2648
- *   rifflerleek_settle           5   2648
- *   rifflerleek_prune            2    468
- *   rifflerleek_compare_states   1     60
+ *   rifflerleek_reset_bits       5   2700
+ *   rifflerleek_settle           5   2716
+ *   rifflerleek_prune            2    560
+ *   rifflerleek_compare_states   2     72
  */
 #define RIFFLERLEEK_DEPTH_LIMIT 5    /* the greatest depth of a call */
-#define RIFFLERLEEK_STACK_LIMIT 2648 /* the greatest stack of a call, in bytes */
+#define RIFFLERLEEK_STACK_LIMIT 2716 /* the greatest stack of a call, in bytes */
 
 /* A result: refusal is RIFFLERLEEK_DONE, place is 0, and result and second_result are what the call says, else 0. A refusal: its
  * number and its place; result and second_result are 0. */

@@ -62,28 +62,36 @@ function calls(i, size,    to, name) {
     below[of[i], callees[of[i]]] = size
 }
 
-# Whether the instructions before i make it a jump by a table of offsets: lea TABLE(%rip),T; movslq (T,I,4),R; add T,R; jmp *R.
-function by_table(i,    r, t, source) {
+# The last instruction before the jump i that is no load of another register; up to three of those may stand between.
+function before_loads(i,    k) {
+    for (k = i - 1; k > i - 4 && code[k] ~ /^movq?$/ && operands[k] ~ /,%r([abcd]x|[sd]i|bp|[0-9]+)$/ && !ends(operands[k], "," substr(operands[i], 2)); k--);
+    return k
+}
+
+# Whether instruction k and the two before it make i a jump by a table of offsets: lea TABLE(%rip),T; movslq (T,I,4),R; add T,R; then jmp *R.
+function by_table(i, k,    r, t, source) {
     r = substr(operands[i], 2)
-    t = operands[i - 1]
+    t = operands[k]
     sub(/,.*/, "", t)
-    source = operands[i - 2]
+    source = operands[k - 1]
     sub(/^0x0/, "", source)
-    return code[i - 3] ~ /^leaq?$/ && operands[i - 3] ~ /^(0x0)?\(%rip\),/ && ends(operands[i - 3], "," t) && base(moved[i - 3]) ~ /^\.rodata/ &&
-        code[i - 2] ~ /^movslq?$/ && index(source, "(" t ",") == 1 && ends(source, ",4)," r) &&
-        code[i - 1] ~ /^addq?$/ && operands[i - 1] == t "," r
+    return code[k - 2] ~ /^leaq?$/ && operands[k - 2] ~ /^(0x0)?\(%rip\),/ && ends(operands[k - 2], "," t) && base(moved[k - 2]) ~ /^\.rodata/ &&
+        code[k - 1] ~ /^movslq?$/ && index(source, "(" t ",") == 1 && ends(source, ",4)," r) &&
+        code[k] ~ /^addq?$/ && operands[k] == t "," r
 }
 function ends(text, end) { return substr(text, length(text) - length(end) + 1) == end }
 
 # A jump by a table: each of its offsets must lead into the function.
 function choose(i, size,    table, start, k) {
-    if (!by_table(i)) {
+    k = before_loads(i)
+    if (!by_table(i, k)) {
         fail(place(i) ": an indirect jump")
         return
     }
     chosen[++choices] = i
-    table = base(moved[i - 3])
-    start = added(moved[i - 3]) + 4
+    began[choices] = k - 1
+    table = base(moved[k - 2])
+    start = added(moved[k - 2]) + 4
     for (k = start; ((table, k) in offset) && (k == start || !((table, k) in table_start)); k += 4) {
         if (base(offset[table, k]) == home[of[i]])
             reach(here[home[of[i]], added(offset[table, k]) - (k - start)], size, i)
@@ -150,7 +158,7 @@ END {
     }
     while (waiters > 0) follow(waiting[waiters--])
     for (f = 1; f <= choices; f++) # the instructions of a jump by a table are passed through one after another
-        for (i = chosen[f] - 2; i <= chosen[f]; i++)
+        for (i = began[f]; i <= chosen[f]; i++)
             if (i in landed) fail(place(i) ": a jump leads into a jump by a table")
     for (f = 1; f <= function_count; f++)
         if (state[functions[f]] == "") measure(functions[f], functions[f])

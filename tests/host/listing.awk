@@ -52,7 +52,7 @@ part == "code" && /^[0-9a-f]+ <.*>:$/ {
 part == "code" && /^ *[0-9a-f]+:\t/ {
     line = $0
     sub(/ *#.*/, "", line)
-    sub(/ *<[^>]*>$/, "", line)
+    sub(/ +<.*>$/, "", line)
     split(line, fields, "\t")
     count++
     at[count] = fields[1]

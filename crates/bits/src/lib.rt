@@ -1,28 +1,13 @@
-// Numbers of another size, the mask of a width, and the reversed word, put together from a table of 256 reversed bytes.
+// The mask of a width, and the reversed word, put together from a table of 256 reversed bytes.
 #![tactic(auto)]
 
-ghost use Rattle.std.specs.Prelude.{◌≡◌, ◌+◌, ◌-◌, ◌*◌, ◌/◌, ◌^◌, ◌≤◌, ◌<◌};
+ghost use Rattle.std.specs.Prelude.{◌≡◌, ◌+◌, ◌-◌, ◌*◌, ◌/◌, ◌^◌, ◌≤◌, ◌<◌, map};
 ghost use Rattle.bits.specs.Limits.{width_limit};
 ghost use Rattle.bits.specs.Reversed.{reversed, reversed_bytes};
-ghost use Rattle.bits.specs.Four.{reversed_words};
 
 use reversed_bytes::{REVERSED, reverse_byte};
 
 mod reversed_bytes; // reversed_bytes.rt: the table
-
-// A byte as a word.
-pub fn wide(x: u8) -> u32
-    ensures { result ≡ x }
-{
-    x as u32
-}
-
-// A word as an index.
-pub fn index(x: u32) -> usize
-    ensures { result ≡ x }
-{
-    x as usize
-}
 
 // Ones below the width. A shift to the right, since a shift to the left by 32 is none of u32's.
 pub fn width_mask(w: u32) -> u32
@@ -60,30 +45,16 @@ fn reverse(table: &[u8; 256], x: u32) -> u32
     append_byte(append_byte(append_byte(a, b), c), d)
 }
 
-// Four words.
-#[derive(Clone, Copy)]
-pub struct FourWords {
-    pub a: u32,
-    pub b: u32,
-    pub c: u32,
-    pub d: u32,
-}
-
-fn reverse_each(table: &[u8; 256], a: u32, b: u32, c: u32, d: u32) -> FourWords
+fn reverse_each(table: &[u8; 256], words: [u32; 4]) -> [u32; 4]
     requires { table.now ≡ reversed_bytes }
-    ensures { result ≡ reversed_words a b c d }
+    ensures { result ≡ map (reversed 32) words }
 {
-    FourWords {
-        a: reverse(table, a),
-        b: reverse(table, b),
-        c: reverse(table, c),
-        d: reverse(table, d),
-    }
+    words.map(|x| reverse(table, x))
 }
 
 // Four words, each with its 32 bits in the other order. In one go, so that the table is laid out once.
-pub fn reverse_words(a: u32, b: u32, c: u32, d: u32) -> FourWords
-    ensures { result ≡ reversed_words a b c d }
+pub fn reverse_words(words: [u32; 4]) -> [u32; 4]
+    ensures { result ≡ map (reversed 32) words }
 {
-    reverse_each(&REVERSED, a, b, c, d)
+    reverse_each(&REVERSED, words)
 }

@@ -124,8 +124,7 @@ fn count_outcomes(rt: &HostRuntime, count: usize) -> io::Result<Tally>
 {
     let mut differ: usize = 0;
     let mut written: usize = 0;
-    let mut k: usize = 0;
-    while k < count {
+    for k in 0..count {
         match pair_outcome(rt, 2 * k + 1)? {
             Outcome::Refused => {}
             Outcome::Written => {
@@ -135,12 +134,8 @@ fn count_outcomes(rt: &HostRuntime, count: usize) -> io::Result<Tally>
                 differ += 1;
             }
         }
-        k += 1;
     }
-    Ok(Tally {
-        differ: differ,
-        written: written,
-    })
+    Ok(Tally { differ, written })
 }
 
 fn main(rt: HostRuntime) -> io::Result<()> {

@@ -3,9 +3,10 @@ ghost use Rattle.std.specs.Prelude.{◌*◌, ◌≤◌, length};
 ghost use Rattle.operations.specs.Limits.{record_words};
 
 use checks::limits::{RECORD_LIMIT, ROW_LIMIT};
-use checks::refusals::BUFFER;
+use checks::refusals::{Reason, Refusal};
+use checks::table::Table;
 use operations::RECORD_WORDS;
-use texts::{BytesAnswer, ReadAnswer, read, size, write};
+use texts::{Counts, read, size, write};
 
 const HELD_WORDS: usize = RECORD_WORDS * RECORD_LIMIT;
 
@@ -17,59 +18,24 @@ pub enum Room {
     Other,
 }
 
-// Whether the answer is n bytes.
-fn is_bytes(a: BytesAnswer, n: usize) -> bool {
-    match a {
-        BytesAnswer::Bytes(m) => m == n,
-        BytesAnswer::Refused(_) => false,
-    }
-}
-
-// Whether the answer is refusal 14.
-fn is_short(a: BytesAnswer) -> bool {
-    match a {
-        BytesAnswer::Bytes(_) => false,
-        BytesAnswer::Refused(r) => r.number == BUFFER,
-    }
-}
-
 // Whether write refuses the buffer as too short.
-fn refuses(
-    width: &[u8],
-    lock: &[u8],
-    mask: &[u32],
-    value: &[u32],
-    words: &[u32],
-    out: &mut [u8],
-) -> bool {
-    is_short(write(width, lock, mask, value, words, out))
+fn refuses(t: Table, out: &mut [u8]) -> bool {
+    matches!(
+        write(t, out),
+        Err(Refusal {
+            reason: Reason::Buffer,
+            ..
+        })
+    )
 }
 
 // Whether write fills the whole buffer with the text.
-fn fills(
-    width: &[u8],
-    lock: &[u8],
-    mask: &[u32],
-    value: &[u32],
-    words: &[u32],
-    text: &[u8],
-    out: &mut [u8],
-) -> bool {
-    if !is_bytes(write(width, lock, mask, value, words, out), out.len()) {
-        return false;
-    }
-    *out == *text
+fn fills(t: Table, text: &[u8], out: &mut [u8]) -> bool {
+    write(t, out) == Ok(out.len()) && *out == *text
 }
 
 // Whether size answers the bytes of the text, and write fills a buffer of exactly that length with it and refuses one byte less.
-fn is_exact(
-    width: &[u8],
-    lock: &[u8],
-    mask: &[u32],
-    value: &[u32],
-    words: &[u32],
-    text: &[u8],
-) -> bool {
+fn is_exact(t: Table, text: &[u8]) -> bool {
     let n = text.len();
     let mut whole = evaluation::text_buffer();
     let mut less = evaluation::text_buffer();
@@ -79,42 +45,27 @@ fn is_exact(
     if whole.len() < n {
         return false;
     }
-    if !is_bytes(size(width, lock, mask, value, words), n) {
-        return false;
-    }
-    if !refuses(width, lock, mask, value, words, &mut less[..n - 1]) {
-        return false;
-    }
-    fills(width, lock, mask, value, words, text, &mut whole[..n])
+    size(t) == Ok(n) && refuses(t, &mut less[..n - 1]) && fills(t, text, &mut whole[..n])
 }
 
-// What a text is, by the rows and records in the slices into which it was read.
-fn room_in(
-    width: &[u8],
-    lock: &[u8],
-    mask: &[u32],
-    value: &[u32],
-    words: &[u32],
-    rows: usize,
-    records: usize,
-    text: &[u8],
-) -> Room
-    requires { (rows ≤ length width.now) × (rows ≤ length lock.now) × (rows ≤ length mask.now) × (rows ≤ length value.now)
-        × (record_words * records ≤ length words.now) }
+// What a text is, by the slices into which it was read, and what read counted.
+fn room_in(slices: Table, c: Counts, text: &[u8]) -> Room
+    requires { (c.rows ≤ length slices.width.now) × (c.rows ≤ length slices.lock.now) × (c.rows ≤ length slices.mask.now) × (c.rows ≤ length slices.value.now)
+        × (record_words * c.records ≤ length slices.words.now) }
 {
-    let n = RECORD_WORDS * records;
-    let exact = is_exact(
-        &width[..rows],
-        &lock[..rows],
-        &mask[..rows],
-        &value[..rows],
-        &words[..n],
-        text,
-    );
-    if exact {
-        return Room::Exact;
+    let n = RECORD_WORDS * c.records;
+    let t = Table {
+        width: &slices.width[..c.rows],
+        lock: &slices.lock[..c.rows],
+        mask: &slices.mask[..c.rows],
+        value: &slices.value[..c.rows],
+        words: &slices.words[..n],
+    };
+    if is_exact(t, text) {
+        Room::Exact
+    } else {
+        Room::Other
     }
-    Room::Other
 }
 
 // What a text is.
@@ -124,12 +75,17 @@ pub fn room_of(text: &[u8]) -> Room {
     let mut mask = [0u32; ROW_LIMIT];
     let mut value = [0u32; ROW_LIMIT];
     let mut words = [0u32; HELD_WORDS];
-    match read(
+    let Ok(c) = read(
         text, &mut width, &mut lock, &mut mask, &mut value, &mut words,
-    ) {
-        ReadAnswer::Refused(_) => Room::NoTable,
-        ReadAnswer::Read(rows, records) => {
-            room_in(&width, &lock, &mask, &value, &words, rows, records, text)
-        }
-    }
+    ) else {
+        return Room::NoTable;
+    };
+    let slices = Table {
+        width: &width,
+        lock: &lock,
+        mask: &mask,
+        value: &value,
+        words: &words,
+    };
+    room_in(slices, c, text)
 }

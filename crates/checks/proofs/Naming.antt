@@ -2,7 +2,7 @@
 use mathlib.Core.Path.{◌≡◌, refl, sym, ap, subst, ◌∙◌}
 use mathlib.Core.Bool.{Bool, true, false, not, cond, ◌&&◌}
 use mathlib.Core.List.{List, [], ◌∷◌}
-use Prim.Native.Nat.{ℕ, suc, ◌+◌, ◌%◌, ◌≤◌, ◌<◌}
+use Prim.Native.Nat.{ℕ, suc, ◌+◌, ◌≤◌, ◌<◌}
 use native.Mathlib.Numerals.{add-one, add-two, add-three, add-four}
 use native.Mathlib.Omega.{arith}
 use borrow.Author.Tests.{ltb-true, not-false}
@@ -14,7 +14,8 @@ use Rattle.operations.specs.Kinds.{is_kind, kind_of}
 use Rattle.operations.specs.declared.Record.{Record}
 use Rattle.operations.specs.Record.{words_of}
 use Rattle.operations.specs.Faults.{Fault, word_outside, span_outside, misused, named_faults}
-use Rattle.operations.specs.Encoding.{is_plain, is_number, word_class}
+use Rattle.operations.specs.declared.descriptions.WordClass.{WordClass}
+use Rattle.operations.specs.Encoding.{is_plain, is_number, word_class, uses_second, uses_parameter, uses_sixth}
 use Rattle.operations.specs.Limits.{record_words, parameter_limit}
 use Rattle.bits.proofs.Bools.{T_not-not, not_not_T}
 use Rattle.operations.proofs.Sound.{first-is-row, target-is-row, second_plain, second-no-number, parameter-plain, sixth-plain, sixth-no-number, parameter-no-row, class-second, class-parameter, class-sixth}
@@ -69,17 +70,18 @@ module _ (n : ℕ) (r : Record) (known : T (is_kind r.kind)) where
         go true t = absurd t
         go false t = refl
 
-    -- under the code's name for the class of its words
-    pub passes : (class : ℕ) → class ≡ word_class (kind_of r.kind) → leb n r.t ≡ false → leb n r.a ≡ false → ltb r.b (cond (eqb (class % 2) 1) n 1) ≡ true
-        → ltb r.p (cond (eqb class 2) (suc parameter_limit) 1) ≡ true → ltb r.c (cond (eqb class 3) n 1) ≡ true
+    -- under the code's names for the class of its words, and for which words it has
+    pub passes : (class : WordClass) (ub up uc : Bool) → class ≡ word_class (kind_of r.kind) → ub ≡ uses_second class → up ≡ uses_parameter class → uc ≡ uses_sixth class
+        → leb n r.t ≡ false → leb n r.a ≡ false → ltb r.b (cond ub n 1) ≡ true
+        → ltb r.p (cond up (suc parameter_limit) 1) ≡ true → ltb r.c (cond uc n 1) ≡ true
         → Passed (placed 0 (named_faults n (words_of r)))
-    passes class e et ea eb ep ec =
+    passes class ub up uc e eu ep ec et ea tb tp tc =
         let x = row_below (kind_of r.kind).use_b (second_plain r.kind known) (second-no-number r.kind known) n r.b
-        (limit-told (eqb (class % 2) 1) n (ap (λ (m : ℕ). eqb (m % 2) 1) e ∙ class-second r.kind known none) eb) in
+        (limit-told ub n (eu ∙ ap uses_second e ∙ class-second r.kind known none) tb) in
         let y = number-below (kind_of r.kind).use_p (parameter-plain r.kind known none) (parameter-no-row r.kind known) n r.p
-        (limit-told (eqb class 2) (suc parameter_limit) (ap (λ (m : ℕ). eqb m 2) e ∙ class-parameter r.kind known none) ep) in
+        (limit-told up (suc parameter_limit) (ep ∙ ap uses_parameter e ∙ class-parameter r.kind known none) tp) in
         let z = row_below (kind_of r.kind).use_c (sixth-plain r.kind known none) (sixth-no-number r.kind known) n r.c
-        (limit-told (eqb class 3) n (ap (λ (m : ℕ). eqb m 3) e ∙ class-sixth r.kind known none) ec) in (
+        (limit-told uc n (ec ∙ ap uses_sixth e ∙ class-sixth r.kind known none) tc) in (
           not_not_T (is_kind r.kind) known,
           (
             rw (target-outside ∙ et) tt,

@@ -12,8 +12,8 @@ use Rattle.bits.specs.Limits.{width_limit}
 use Rattle.vectors.specs.Row.{row, WellFormed}
 use Rattle.vectors.proofs.Rows.{apart-of-and, and-of-apart}
 use Rattle.operations.specs.Record.{width_at}
-use Rattle.checks.specs.declared.Verdict.{Verdict}
-use Rattle.checks.specs.declared.Verdict.TheVariants.{Passed as Clear}
+use Rattle.std.specs.Prelude.{Result, Ok}
+use Rattle.checks.specs.declared.refusals.Refusal.{Refusal}
 use Rattle.checks.specs.Check.{placed, Passed}
 use Rattle.checks.specs.Model.{verdict_model, judged}
 use Rattle.checks.specs.Table.{Table}
@@ -34,7 +34,7 @@ pub width-of-passed : (w j : ℕ) → Passed (placed j (width_faults w)) → (1 
 width-of-passed w j P = (positive w P.0, nltb→le _ _ P.1.0)
 
 -- the same of a verdict that is clear
-pub width-of-clear : (w j : ℕ) (r : Verdict) → verdict_model r ≡ judged (placed j (width_faults w)) → r ≡ Clear → (1 ≤ w) × (w ≤ width_limit)
+pub width-of-clear : (w j : ℕ) (r : Result (Unit {0}) Refusal) → verdict_model r ≡ judged (placed j (width_faults w)) → r ≡ Ok tt → (1 ≤ w) × (w ≤ width_limit)
 width-of-clear w j r e p = width-of-passed w j (passed-of-done (placed j (width_faults w)) tt tt (sym e ∙ ap verdict_model p))
 
 pub vector-of-passed : (w m v j : ℕ) → Passed (placed j (vector_faults w m v)) → WellFormed (row w m v)

@@ -1,27 +1,32 @@
 -- A verdict over a list of checks, part by part: what a loop or a chain of calls that stops at the first refusal goes by. Assumes nothing.
 use mathlib.Core.Path.{◌≡◌, sym, ap, ◌∙◌}
 use mathlib.Core.List.{List, ◌++◌}
+use Rattle.std.specs.Prelude.{Result, Ok, Err}
+use Rattle.std.specs.Result.{IsErrAnd}
+use Rattle.std.proofs.lemmas.Result.{err_from_is_err_and}
 use Prim.Native.Nat.{ℕ, suc, ◌+◌, ◌-◌, ◌^◌, ◌≤◌, ◌<◌}
 use native.Mathlib.Nat.{sub-zero}
 use native.Mathlib.Numerals.{add-one}
 use native.Mathlib.Omega.{arith}
 use lib.Pow.{pow_pos}
 use Rattle.bits.specs.Counted.{rising}
-use Rattle.checks.specs.declared.Refusal.{Refusal}
-use Rattle.checks.specs.declared.Verdict.{Verdict}
-use Rattle.checks.specs.declared.Verdict.TheVariants.{Passed as Clear, Refused}
+use Rattle.checks.specs.declared.refusals.Refusal.{Refusal}
 use Rattle.checks.specs.Check.{Answer, done, refused, Check, verdict}
-use Rattle.checks.specs.Model.{verdict_model, judged}
+use Rattle.checks.specs.Model.{reason_number, verdict_model, judged}
 use Rattle.checks.proofs.Verdicts.{passed-of-done, verdict-passed, verdict-refused}
 
-module _ (r : Verdict) (cs ds : List Check) (e : verdict_model r ≡ judged cs) where
+-- a `?` hands on the refusal that it met
+pub exit : {A : Type 0} (s : Result A Refusal) (q : Refusal) → IsErrAnd s (λ x. x ≡ q) → s ≡ Err q
+exit s q h = let p = err_from_is_err_and s h in p.1 ∙ ap Err p.2
+
+module _ (r : Result (Unit {0}) Refusal) (cs ds : List Check) (e : verdict_model r ≡ judged cs) where
   -- a part that is clear leaves the verdict to the rest
-  pub goes_on : r ≡ Clear → judged (cs ++ ds) ≡ judged ds
+  pub goes_on : r ≡ Ok tt → judged (cs ++ ds) ≡ judged ds
   goes_on p = verdict-passed cs ds tt (passed-of-done cs tt tt (sym e ∙ ap verdict_model p))
 
   -- a part that refuses decides
-  pub stops : (q : Refusal) → r ≡ Refused q → judged (cs ++ ds) ≡ refused q.number q.place
-  stops q p = verdict-refused cs ds tt tt q.number q.place (sym e ∙ ap verdict_model p)
+  pub stops : (q : Refusal) → r ≡ Err q → judged (cs ++ ds) ≡ refused (reason_number q.reason) q.place
+  stops q p = verdict-refused cs ds tt tt (reason_number q.reason) q.place (sym e ∙ ap verdict_model p)
 
 -- ---- a loop over rising places
 
@@ -44,11 +49,11 @@ module _ (f : ℕ → List Check) (n : ℕ) where
   rest_end i h = let e : n - i ≡ 0 = omega arith in ap (λ (m : ℕ). judged (rising f i m)) e
 
 -- one turn: the verdict at place i stops the loop, or leaves the verdict to the places after it
-module _ (f : ℕ → List Check) (n i : ℕ) (h : i < n) (r : Verdict) (e : verdict_model r ≡ judged (f i)) where
-  pub turn-stops : (q : Refusal) → r ≡ Refused q → rest f n i ≡ verdict_model (Refused q)
+module _ (f : ℕ → List Check) (n i : ℕ) (h : i < n) (r : Result (Unit {0}) Refusal) (e : verdict_model r ≡ judged (f i)) where
+  pub turn-stops : (q : Refusal) → r ≡ Err q → rest f n i ≡ verdict_model (Err q)
   turn-stops q p = rest-step f n i h ∙ stops r (f i) (rising f (i + 1) (n - (i + 1))) e q p
 
-  pub turn-goes-on : r ≡ Clear → rest f n i ≡ rest f n (i + 1)
+  pub turn-goes-on : r ≡ Ok tt → rest f n i ≡ rest f n (i + 1)
   turn-goes-on p = rest-step f n i h ∙ goes_on r (f i) (rising f (i + 1) (n - (i + 1))) e p
 
 -- ---- a plane against the mask of its width

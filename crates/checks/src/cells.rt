@@ -10,8 +10,8 @@ ghost use Rattle.checks.specs.Model.{verdict_model, judged};
 ghost use Rattle.checks.specs.Encoding.{span_faults, WordsPassed, TargetsIn};
 
 use crate::described::row_outside;
-use crate::{Verdict, refusals, refuse};
-use bits::index;
+use crate::refusals::Reason;
+use crate::{Verdict, refuse};
 use operations::{LOAD, Record, STORE};
 use spans::{span_fits, span_marked};
 
@@ -20,24 +20,24 @@ fn check_span(n: usize, x: u32, y: u32, base: u32, count: u32, zero: u32, i: usi
     ensures { verdict_model result ≡ judged (placed i (span_faults n x y base count zero)) }
 {
     if row_outside(n, x) {
-        return refuse(refusals::ROW, i);
+        return refuse(Reason::Row, i);
     }
     if row_outside(n, y) {
-        return refuse(refusals::ROW, i);
+        return refuse(Reason::Row, i);
     }
     if row_outside(n, base) {
-        return refuse(refusals::ROW, i);
+        return refuse(Reason::Row, i);
     }
-    if n < index(base) + index(count) {
-        return refuse(refusals::ROW, i);
+    if n < base as usize + count as usize {
+        return refuse(Reason::Row, i);
     }
     if zero != 0 {
-        return refuse(refusals::WORD, i);
+        return refuse(Reason::Word, i);
     }
     if count == 0 {
-        return refuse(refusals::WORD, i);
+        return refuse(Reason::Word, i);
     }
-    Verdict::Passed
+    Ok(())
 }
 
 // The first of checks 7 and 8 that a load or a store fails.
@@ -56,13 +56,13 @@ pub fn cells_fit(width: &[u8], r: Record) -> bool
     requires { WordsPassed (length width.now) (words_of r) × T (is_base (kind_of r.kind).use_c) }
     ensures { result ≡ widths_fit width.now (words_of r) }
 {
-    let base = index(r.c);
-    let count = index(r.p);
+    let base = r.c as usize;
+    let count = r.p as usize;
     if r.kind == LOAD {
-        let t = index(r.t);
+        let t = r.t as usize;
         return span_fits(width, base, count, width[t]);
     }
-    let d = index(r.b);
+    let d = r.b as usize;
     span_fits(width, base, count, width[d])
 }
 
@@ -72,8 +72,8 @@ pub fn target_marked(marks: &[u8], r: Record) -> bool
     ensures { result ≡ some_of (λ i. eqb (get_or marks.now i 0) 1) (target_rows (words_of r)) }
 {
     if r.kind == STORE {
-        return span_marked(marks, index(r.c), index(r.p));
+        return span_marked(marks, r.c as usize, r.p as usize);
     }
-    let t = index(r.t);
+    let t = r.t as usize;
     marks[t] == 1
 }

@@ -10,7 +10,8 @@ ghost use Rattle.checks.specs.Model.{verdict_model, judged};
 use crate::cells::check_cells;
 use crate::described::{row_outside, word_misused, word_outside, word_within};
 use crate::limits::PARAMETER_LIMIT;
-use crate::{Verdict, refusals, refuse};
+use crate::refusals::Reason;
+use crate::{Verdict, refuse};
 use operations::{Record, has_cells, is_kind, parameter_use, second_use, sixth_use, word_class};
 
 // The number that a shift, rotation or extract parameter must be below.
@@ -28,13 +29,13 @@ fn words_pass(n: usize, r: Record) -> bool
         return false;
     }
     let class = word_class(r.kind);
-    if !word_within(class % 2 == 1, n, r.b) {
+    if !word_within(class.uses_second(), n, r.b) {
         return false;
     }
-    if !word_within(class == 2, PARAMETERS, r.p) {
+    if !word_within(class.uses_parameter(), PARAMETERS, r.p) {
         return false;
     }
-    word_within(class == 3, n, r.c)
+    word_within(class.uses_sixth(), n, r.c)
 }
 
 // What the word b, p or the sixth is to the record's kind, which is without cells: outside the table, or none that it may have.
@@ -79,27 +80,27 @@ fn first_fault(n: usize, r: Record, i: usize) -> Verdict
     ensures { verdict_model result ≡ judged (placed i (named_faults n (words_of r))) }
 {
     if row_outside(n, r.t) {
-        return refuse(refusals::ROW, i);
+        return refuse(Reason::Row, i);
     }
     if row_outside(n, r.a) {
-        return refuse(refusals::ROW, i);
+        return refuse(Reason::Row, i);
     }
     if second_outside(n, r) {
-        return refuse(refusals::ROW, i);
+        return refuse(Reason::Row, i);
     }
     if sixth_outside(n, r) {
-        return refuse(refusals::ROW, i);
+        return refuse(Reason::Row, i);
     }
     if second_misused(r) {
-        return refuse(refusals::WORD, i);
+        return refuse(Reason::Word, i);
     }
     if parameter_misused(r) {
-        return refuse(refusals::WORD, i);
+        return refuse(Reason::Word, i);
     }
     if sixth_misused(r) {
-        return refuse(refusals::WORD, i);
+        return refuse(Reason::Word, i);
     }
-    Verdict::Passed
+    Ok(())
 }
 
 // The first of checks 6 to 8 that a record fails: which of 7 and 8 is looked for only where there is one.
@@ -107,13 +108,13 @@ pub fn check_named(n: usize, r: Record, i: usize) -> Verdict
     ensures { verdict_model result ≡ judged (placed i (named_faults n (words_of r))) }
 {
     if !is_kind(r.kind) {
-        return refuse(refusals::KIND, i);
+        return refuse(Reason::Kind, i);
     }
     if has_cells(r.kind) {
         return check_cells(n, r, i);
     }
     if words_pass(n, r) {
-        return Verdict::Passed;
+        return Ok(());
     }
     first_fault(n, r, i)
 }

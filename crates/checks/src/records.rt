@@ -7,14 +7,15 @@ ghost use Rattle.operations.specs.Faults.{record_faults, widths_fit};
 ghost use Rattle.checks.specs.Limits.{row_limit};
 ghost use Rattle.checks.specs.Table.{record_of};
 ghost use Rattle.checks.specs.Check.{placed};
-ghost use Rattle.checks.specs.Model.{lent, verdict_model, judged};
+ghost use Rattle.checks.specs.Model.{in_table, lent, verdict_model, judged};
 ghost use Rattle.checks.specs.Encoding.{WordsPassed, TargetsIn, lock_with, record_with, records_with};
 
 use crate::cells::{cells_fit, target_marked};
 use crate::described::{rule_fits, width_at};
 use crate::named::check_named;
-use crate::{Verdict, refusals, refuse};
-use bits::index;
+use crate::refusals::Reason;
+use crate::table::Table;
+use crate::{Verdict, refuse};
 use operations::{RECORD_WORDS, Record, has_cells, rule};
 
 // Record i of the words.
@@ -41,16 +42,16 @@ fn record_fits(width: &[u8], r: Record) -> bool
     if has_cells(r.kind) {
         return cells_fit(width, r);
     }
-    let wt = width_at(width, index(r.t));
-    let wa = width_at(width, index(r.a));
+    let wt = width_at(width, r.t as usize);
+    let wa = width_at(width, r.a as usize);
     rule_fits(
         width,
         rule(r.kind),
         wt,
         wa,
-        index(r.b),
-        index(r.p),
-        index(r.c),
+        r.b as usize,
+        r.p as usize,
+        r.c as usize,
     )
 }
 
@@ -59,17 +60,11 @@ fn check_record(width: &[u8], r: Record, i: usize) -> Verdict
     requires { length width.now ≤ row_limit }
     ensures { verdict_model result ≡ judged (placed i (record_faults width.now (words_of r))) }
 {
-    let found = check_named(width.len(), r, i);
-    match found {
-        Verdict::Refused(_) => {
-            return found;
-        }
-        Verdict::Passed => {}
+    check_named(width.len(), r, i)?;
+    if !record_fits(width, r) {
+        return refuse(Reason::Fit, i);
     }
-    if record_fits(width, r) {
-        return Verdict::Passed;
-    }
-    refuse(refusals::FIT, i)
+    Ok(())
 }
 
 // Check 10, where it is asked for: a row that the record writes is locked.
@@ -79,46 +74,29 @@ fn check_lock(locked: bool, lock: &[u8], r: Record, i: usize) -> Verdict
 {
     if locked {
         if target_marked(lock, r) {
-            return refuse(refusals::LOCKED, i);
+            return refuse(Reason::Locked, i);
         }
     }
-    Verdict::Passed
+    Ok(())
 }
 
 // The first of checks 6 to 9, and 10 where it is asked for, that record i fails.
-fn check_one(locked: bool, width: &[u8], lock: &[u8], words: &[u32], i: usize) -> Verdict
-    requires { (length width.now ≤ row_limit) × (length lock.now ≡ length width.now) × (i < length words.now / record_words) }
-    ensures { let table = lent width.now lock.now [] [] words.now in
-        verdict_model result ≡ judged (record_with locked table i) }
+fn check_one(locked: bool, t: Table, i: usize) -> Verdict
+    requires { (length t.width.now ≤ row_limit) × (length t.lock.now ≡ length t.width.now) × (i < length t.words.now / record_words) }
+    ensures { verdict_model result ≡ judged (record_with locked (in_table t.entry) i) }
 {
-    let r = record_at(words, i);
-    let found = check_record(width, r, i);
-    match found {
-        Verdict::Refused(_) => {
-            return found;
-        }
-        Verdict::Passed => {}
-    }
-    check_lock(locked, lock, r, i)
+    let r = record_at(t.words, i);
+    check_record(t.width, r, i)?;
+    check_lock(locked, t.lock, r, i)
 }
 
 // Records rising, 6 to 9 in number order, and 10 where it is asked for.
-pub fn check_records(locked: bool, width: &[u8], lock: &[u8], words: &[u32]) -> Verdict
-    requires { (length width.now ≤ row_limit) × (length lock.now ≡ length width.now) }
-    ensures { let table = lent width.now lock.now [] [] words.now in
-        verdict_model result ≡ judged (records_with locked table) }
+pub fn check_records(locked: bool, t: Table) -> Verdict
+    requires { (length t.width.now ≤ row_limit) × (length t.lock.now ≡ length t.width.now) }
+    ensures { verdict_model result ≡ judged (records_with locked (in_table t.entry)) }
 {
-    let n = words.len() / RECORD_WORDS;
-    let mut i: usize = 0;
-    while i < n {
-        let found = check_one(locked, width, lock, words, i);
-        match found {
-            Verdict::Passed => {}
-            Verdict::Refused(_) => {
-                return found;
-            }
-        }
-        i += 1;
+    for i in 0..t.words.len() / RECORD_WORDS {
+        check_one(locked, t, i)?;
     }
-    Verdict::Passed
+    Ok(())
 }

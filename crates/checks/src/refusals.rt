@@ -1,43 +1,45 @@
-// The numbers of the refusals (01, "Who can cause a refusal"; from 15 on 02).
+// The refusals by their causes (01, "Who can cause a refusal"; from 15 on 02).
+ghost use Rattle.std.specs.Prelude.{◌≡◌};
+ghost use Rattle.checks.specs.Model.{reason_number};
 
-pub const ROWS: u32 = 1;
+// What a call refuses for.
+#[derive(Clone, Copy, PartialEq, Eq)]
+pub enum Reason {
+    Rows = 1,
+    Lengths = 2,
+    Records = 3,
+    Width = 4,
+    Vector = 5,
+    Kind = 6,
+    Row = 7,
+    Word = 8,
+    Fit = 9,
+    Locked = 10,
+    Long = 11,
+    Line = 12,
+    Room = 13,
+    Buffer = 14,
+    Bit = 15,
+    Known = 16,
+    Ends = 17,
+    Empty = 18,
+    Unknown = 19,
+    Pairs = 20,
+    Marks = 21,
+}
 
-pub const LENGTHS: u32 = 2;
+impl Reason {
+    // The number of the refusal.
+    pub fn number(self) -> u32
+        ensures { result ≡ reason_number self }
+    {
+        self as u32
+    }
+}
 
-pub const RECORDS: u32 = 3;
-
-pub const WIDTH: u32 = 4;
-
-pub const VECTOR: u32 = 5;
-
-pub const KIND: u32 = 6;
-
-pub const ROW: u32 = 7;
-
-pub const WORD: u32 = 8;
-
-pub const FIT: u32 = 9;
-
-pub const LOCKED: u32 = 10;
-
-pub const LONG: u32 = 11;
-
-pub const LINE: u32 = 12;
-
-pub const ROOM: u32 = 13;
-
-pub const BUFFER: u32 = 14;
-
-pub const BIT: u32 = 15;
-
-pub const KNOWN: u32 = 16;
-
-pub const ENDS: u32 = 17;
-
-pub const EMPTY: u32 = 18;
-
-pub const UNKNOWN: u32 = 19;
-
-pub const PAIRS: u32 = 20;
-
-pub const MARKS: u32 = 21;
+// A refusal holds its reason and its place.
+#[derive(Clone, Copy, PartialEq, Eq)]
+pub struct Refusal {
+    pub reason: Reason,
+    pub place: usize,
+}

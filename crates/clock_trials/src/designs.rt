@@ -32,12 +32,12 @@ fn kind(w: u64, n: u64) -> u64 {
 // The record of these words.
 fn words(kind: u64, t: u64, a: u64, b: u64, p: u64, c: u64) -> Record {
     Record {
-        kind: kind,
-        t: t,
-        a: a,
-        b: b,
-        p: p,
-        c: c,
+        kind,
+        t,
+        a,
+        b,
+        p,
+        c,
     }
 }
 
@@ -128,7 +128,7 @@ pub fn question(w: u64, design: u64, n: u64) -> Question
 {
     let names = named(design / 100);
     Question {
-        w: w,
+        w,
         rows: start(w, design, n),
         first: record(kind(w, design), names / 1000),
         second: record(kind(w, design / 10), names),

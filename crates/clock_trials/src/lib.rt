@@ -6,14 +6,13 @@
 
 ghost use Rattle.std.specs.Prelude.{◌≤◌};
 
-use checks::refusals;
-use clocks::{SettleAnswer, settle};
+use checks::refusals::{Reason, Refusal};
+use clocks::settle;
 use oracle::numbers::{byte, times, truth, word};
 use oracle::shapes::STORE;
 use reached::cover_all;
 use records::Record;
 use reset_trials::rows::{Rows, masks, values};
-use trials::same;
 use widening::all_rounds;
 
 pub mod compared; // compared.rt: two states, through `compare_states`
@@ -69,16 +68,8 @@ fn words(r: Record, s: Record) -> [u32; 12] {
     ]
 }
 
-// Whether the answer is this number of rounds, or 20 for 0.
-fn answers(answer: SettleAnswer, count: u64) -> bool {
-    match answer {
-        SettleAnswer::Rounds(found) => found as u64 == count && count != 0,
-        SettleAnswer::Refused(r) => count == 0 && r.number == refusals::PAIRS && r.place == 0,
-    }
-}
-
 // Settles a table.
-fn settle_table(q: Question, mask: &mut [u32; 4], value: &mut [u32; 4]) -> SettleAnswer {
+fn settle_table(q: Question, mask: &mut [u32; 4], value: &mut [u32; 4]) -> Result<usize, Refusal> {
     let w = byte(q.w);
     let width = [w, w, w, w];
     let lock = [0u8, 0, byte(truth(is_input(q.first, q.second))), 0];
@@ -98,12 +89,12 @@ fn settle_table(q: Question, mask: &mut [u32; 4], value: &mut [u32; 4]) -> Settl
     )
 }
 
-// Whether `settle` answers this number of rounds, or refuses the pairs where it is 0, and leaves these rows.
-fn leaves(q: Question, count: u64, left: Rows) -> bool {
+// Whether `settle` gives this answer and leaves these rows.
+fn leaves(q: Question, due: Result<usize, Refusal>, left: Rows) -> bool {
     let mut mask = masks(q.rows);
     let mut value = values(q.rows);
     let answer = settle_table(q, &mut mask, &mut value);
-    answers(answer, count) && same(&mask, &masks(left)) && same(&value, &values(left))
+    answer == due && mask == masks(left) && value == values(left)
 }
 
 // Whether `settle` and the rounds by enumeration agree, there are at most as many as the state bits and one more, and the rows left cover every plain clock.
@@ -111,9 +102,15 @@ fn agrees(q: Question) -> bool
     requires { q.w ≤ 2 }
 {
     if q.pairs.refused {
-        return leaves(q, 0, q.rows);
+        let refused = Refusal {
+            reason: Reason::Pairs,
+            place: 0,
+        };
+        return leaves(q, Err(refused), q.rows);
     }
-    let right = all_rounds(q);
+    let Some(right) = all_rounds(q) else {
+        return false;
+    };
     let most = times(q.pairs.count % 3, q.w) + 1;
-    right.count <= most && leaves(q, right.count, right.rows) && cover_all(q, right.rows)
+    right.count as u64 <= most && leaves(q, Ok(right.count), right.rows) && cover_all(q, right.rows)
 }

@@ -45,12 +45,10 @@ fn each_clock(q: Question, left: Rows, bits: u64, states: u64) -> Clocks {
         after: 0,
         covered: true,
     };
-    let mut numbers: u64 = 0;
-    while numbers < 256 {
+    for numbers in 0..256 {
         if cover(start, numbers) && states & 1u64 << ((numbers & bits) % 16) != 0 {
             clocks = with_clock(q, left, clocks, numbers);
         }
-        numbers += 1;
     }
     clocks
 }
@@ -61,15 +59,13 @@ pub fn cover_all(q: Question, left: Rows) -> bool {
     let bits = latched(q.pairs, 0b11111111);
     let mut clocks = each_clock(q, left, 0, 1);
     let mut met: u64 = 0;
-    let mut turn: u64 = 0;
-    while turn < 17 {
+    for _ in 0..17 {
         let fresh = (clocks.after | met) ^ met;
         if !clocks.covered || fresh == 0 {
             return clocks.covered;
         }
         clocks = each_clock(q, left, bits, fresh);
         met |= fresh;
-        turn += 1;
     }
     false
 }

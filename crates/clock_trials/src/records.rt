@@ -1,6 +1,5 @@
 // What a record makes of rows, by enumeration of all choices.
 ghost use Rattle.std.specs.Prelude.{◌≤◌};
-ghost use Rattle.oracle.specs.Sizes.{Sized};
 
 use oracle::cells::{Cells, loaded, stored};
 use oracle::choices::{Row, enumerated, enumerated_twice};
@@ -20,12 +19,10 @@ pub struct Record {
 }
 
 // The shape of a record that has no cells.
-pub fn shape(w: u64, kind: u64) -> Shape
-    ensures { Sized result.wt result.wa result.wb result.p }
-{
+pub fn shape(w: u64, kind: u64) -> Shape {
     let w = if w == 1 { 1 } else { 2 };
     Shape {
-        kind: kind,
+        kind,
         wt: w,
         wa: w,
         wb: w,

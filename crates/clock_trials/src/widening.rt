@@ -7,10 +7,10 @@ use oracle::cells::stored;
 use oracle::choices::Row;
 use reset_trials::rows::{Rows, row_at};
 
-// How many rounds there are, 0 where they do not end, and the rows after the last one's run.
+// How many rounds there are, and the rows after the last one's run.
 #[derive(Clone, Copy)]
 pub struct Ended {
-    pub count: u64,
+    pub count: usize,
     pub rows: Rows,
 }
 
@@ -34,27 +34,18 @@ fn next_start(w: u64, pairs: Pairs, start: Rows, ran: Rows) -> Rows
     with_row(with_row(start, pairs.s0, first), pairs.s1, second)
 }
 
-// The rounds. 16 are more than there can be.
-pub fn all_rounds(q: Question) -> Ended
+// The rounds, where they end. 16 are more than there can be.
+pub fn all_rounds(q: Question) -> Option<Ended>
     requires { q.w ≤ 2 }
 {
-    let w = q.w;
     let mut start = q.rows;
-    let mut count: u64 = 1;
-    while count < 16 {
-        let ran = rows_after(w, q.second, rows_after(w, q.first, start));
-        let next = next_start(w, q.pairs, start, ran);
-        if next.mask == start.mask && next.value == start.value {
-            return Ended {
-                count: count,
-                rows: ran,
-            };
+    for count in 1..16 {
+        let ran = rows_after(q.w, q.second, rows_after(q.w, q.first, start));
+        let next = next_start(q.w, q.pairs, start, ran);
+        if next == start {
+            return Some(Ended { count, rows: ran });
         }
         start = next;
-        count += 1;
     }
-    Ended {
-        count: 0,
-        rows: start,
-    }
+    None
 }

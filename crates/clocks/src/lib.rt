@@ -3,18 +3,19 @@
 
 ghost use Rattle.std.specs.Prelude.{◌≡◌, ℕ};
 ghost use Rattle.checks.specs.Check.{done};
-ghost use Rattle.checks.specs.Model.{lent, verdict_model, judged};
+ghost use Rattle.checks.specs.Model.{in_table, lent, answer_model, verdict_model, judged};
 ghost use Rattle.steps.specs.States.{held};
 ghost use Rattle.steps.specs.Encoding.{OwnRows, RoomFor};
 ghost use Rattle.tables.specs.Run.{full_run};
 ghost use Rattle.rounds.specs.Clock.{pairs_of, rounds_of, last_start};
 ghost use Rattle.rounds.specs.Settle.{settle_checks, settle_of, Settles};
 ghost use Rattle.rounds.specs.Encoding.{SettleReady};
-ghost use Rattle.clocks.specs.Model.{settle_model, settled};
+ghost use Rattle.clocks.specs.Model.{settled};
 
-use bits::wide;
+use checks::Verdict;
 use checks::limits::ROW_LIMIT;
-use checks::{Refusal, Verdict};
+use checks::refusals::Refusal;
+use checks::table::Table;
 use operations::RECORD_WORDS;
 use pairs::check_pairs;
 use rounds::{rows_still, widen_rows};
@@ -22,35 +23,12 @@ use steps::copy_rows;
 use table_checks::check_run;
 use tables::stepping::step_all;
 
-// The number of rounds, or a refusal.
-#[derive(Clone, Copy)]
-pub enum SettleAnswer {
-    Rounds(usize),
-    Refused(Refusal),
-}
-
 // What run refuses of all records, then 20.
-fn check_settle(
-    width: &[u8],
-    lock: &[u8],
-    mask: &[u32],
-    value: &[u32],
-    words: &[u32],
-    states: &[u32],
-    nexts: &[u32],
-) -> Verdict
-    ensures { let table = lent width.now lock.now mask.now value.now words.now in
-        verdict_model result ≡ judged (settle_checks table states.now nexts.now) }
+fn check_settle(t: Table, states: &[u32], nexts: &[u32]) -> Verdict
+    ensures { verdict_model result ≡ judged (settle_checks (in_table t.entry) states.now nexts.now) }
 {
-    let last = words.len() / RECORD_WORDS;
-    let found = check_run(width, lock, mask, value, words, 0, last);
-    match found {
-        Verdict::Refused(_) => {
-            return found;
-        }
-        Verdict::Passed => {}
-    }
-    check_pairs(width, lock, words, states, nexts)
+    check_run(t, 0, t.words.len() / RECORD_WORDS)?;
+    check_pairs(t, states, nexts)
 }
 
 // Rounds until no state row changes. The lent rows are run, and smask and svalue hold the rows from which each round starts; the lent rows are left as the last
@@ -116,8 +94,8 @@ fn settle_in(
 }
 
 // Clock after clock until it settles: rounds from the lent rows, each a run of all records that starts the rows that are no state rows from their start, after which
-// each state row is widened to the best vector covering it and its next row, until none changes. The rows are left as the last round's run leaves them; a refusal
-// leaves them as lent.
+// each state row is widened to the best vector covering it and its next row, until none changes. The answer is the number of rounds. The rows are left as the last
+// round's run leaves them; a refusal leaves them as lent.
 pub fn settle(
     width: &[u8],
     lock: &[u8],
@@ -126,24 +104,26 @@ pub fn settle(
     words: &[u32],
     states: &[u32],
     nexts: &[u32],
-) -> SettleAnswer
+) -> Result<usize, Refusal>
     ensures effect { let table = lent width.now lock.now mask.old value.old words.now in
         settled result mask.new value.new ≡ settle_of table states.now nexts.now }
     ensures settles { let table = lent width.now lock.now mask.old value.old words.now in
         let pairs = pairs_of states.now nexts.now in
-        ((n : ℕ) → settle_model result ≡ done n → Settles table pairs n (held mask.new value.new)) }
+        ((n : ℕ) → answer_model result ≡ done n → Settles table pairs n (held mask.new value.new)) }
 {
-    match check_settle(width, lock, mask, value, words, states, nexts) {
-        Verdict::Refused(r) => {
-            return SettleAnswer::Refused(r);
-        }
-        Verdict::Passed => {}
-    }
+    let table = Table {
+        width,
+        lock,
+        mask,
+        value,
+        words,
+    };
+    check_settle(table, states, nexts)?;
     // What the room holds at first is never read. A constant there would be compiled to a call of a function that is not the library's.
-    let fill = wide(width[0]);
+    let fill = width[0] as u32;
     let mut rmask = [fill; ROW_LIMIT];
     let mut rvalue = [fill; ROW_LIMIT];
-    let rounds = settle_in(
+    Ok(settle_in(
         width,
         lock,
         mask,
@@ -153,6 +133,5 @@ pub fn settle(
         &mut rvalue,
         states,
         nexts,
-    );
-    SettleAnswer::Rounds(rounds)
+    ))
 }

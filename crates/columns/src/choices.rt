@@ -31,7 +31,7 @@ pub fn by_every_choice(ma: u32, va: u32, mb: u32, vb: u32) -> u32
     let mut found: u32 = 0;
     let mut s = unknown;
     while s != 0 {
-        found = found | chosen(plain, va, vb, s);
+        found |= chosen(plain, va, vb, s);
         s = (s - 1) & unknown;
     }
     found
@@ -42,10 +42,8 @@ pub fn without_lowest(x: u64) -> u64
     ensures { ones_in 64 result ≡ ones_in 64 x - exhaustive_limit }
 {
     let mut rest = x;
-    let mut cleared: u32 = 0;
-    while cleared < EXHAUSTIVE_LIMIT {
-        rest = rest & std::num::wrapping_sub_u64(rest, 1);
-        cleared = cleared + 1;
+    for cleared in 0..EXHAUSTIVE_LIMIT {
+        rest &= rest.wrapping_sub(1);
     }
     rest
 }

@@ -1,5 +1,6 @@
 // Columns of a product that a few plain products settle, so that only the others are worked out one by one: a column is unknown where two
 // covered products differ, and known where no unknown bit can change it (01, "Abstract result").
+// Masks and values come as words, which stand in registers (speed: docs/DECISIONS.md, A vector in one word).
 #![tactic(auto)]
 
 ghost use Rattle.std.specs.Prelude.{◌≡◌, ◌-◌, ◌*◌, ◌%◌, ◌^◌, min};
@@ -42,7 +43,7 @@ pub fn ones_below(n: u32) -> u32
 pub fn below_lowest(x: u32) -> u32
     ensures { result ≡ 2 ^ count_trailing_zeros 32 x - 1 }
 {
-    std::num::wrapping_sub_u32(x, 1) & !x
+    x.wrapping_sub(1) & !x
 }
 
 // Columns that are known whatever the unknown bits are: those below every unknown bit's reach. Bit i of one operand adds to no column below i + j,

@@ -18,15 +18,13 @@ pub fn below_cut(ma: u32, mb: u32) -> u32
 {
     let mut a = ma;
     let mut b = mb;
-    let mut taken: u32 = 0;
-    while taken < LOW_EXHAUSTIVE_LIMIT {
+    for taken in 0..LOW_EXHAUSTIVE_LIMIT {
         let either = a | b;
         if either == 0 {
             return u32::MAX;
         }
-        b = b & ((either - 1) | a);
-        a = a & (either - 1);
-        taken = taken + 1;
+        b &= (either - 1) | a;
+        a &= either - 1;
     }
     below_lowest(a | b)
 }

@@ -9,5 +9,5 @@ pub fn end_reached(ma: u32, va: u32, mb: u32, vb: u32) -> u32
 {
     let least = exact_product(va, vb);
     let greatest = exact_product(va | ma, vb | mb);
-    64 - u64::leading_zeros(least ^ greatest)
+    64 - (least ^ greatest).leading_zeros()
 }

@@ -8,7 +8,7 @@ use crate::product;
 // Of the unknown bits those at even places, at odd places, and at every second pair of places: with these no column of two wholly unknown words stays open.
 const EVEN_PLACES: u32 = 0x5555_5555;
 
-const ODD_PLACES: u32 = 0x_aaaa_AAAA;
+const ODD_PLACES: u32 = 0xAAAA_AAAA;
 
 const BY_TWOS: u32 = 0x6666_6666;
 

@@ -30,7 +30,7 @@ pub fn forget(mask: &mut [u32], value: &mut [u32], i: usize, k: u32)
         ((widths : List ℕ) → held mask.new value.new ≡ Pass.forget widths start (position i k)) }
 {
     let one = 1u32 << k;
-    mask[i] = mask[i] | one;
+    mask[i] |= one;
     value[i] = (value[i] | one) ^ one;
 }
 
@@ -39,8 +39,5 @@ pub fn holds(m: u32, v: u32, c: Conclusion) -> bool
     requires { c.at < 32 }
     ensures { result ≡ (eqb (bit m c.at) 0 && eqb (bit v c.at) c.value) }
 {
-    if bit_at(m, c.at) != 0 {
-        return false;
-    }
-    bit_at(v, c.at) == c.value
+    bit_at(m, c.at) == 0 && bit_at(v, c.at) == c.value
 }

@@ -9,12 +9,11 @@ use clock_trials::compared::ordered;
 use clock_trials::sweeps::settled;
 use lossless_trials::sweeps::lossless;
 use memory_trials::sweeps::memories;
-use oracle::shapes::LOAD;
 use prune_trials::sweeps::{RECORDS, pruned, records_kept};
-use report::{print_kind, print_line, print_records, print_tally};
+use report::{NAMES, print_line, print_records};
 use reset_trials::sweeps::resets;
 use std::io;
-use sweeps::{Through, sweep};
+use sweeps::{bits, ranges, runs, runs_of_one_row, witnessed};
 use trials::counting::{Tally, joined, none};
 use trials::examples::examples;
 
@@ -25,56 +24,51 @@ mod sweeps; // sweeps.rt: all tables of a kind
 fn print_tables(rt: &impl Print) -> io::Result<Tally> {
     let mut total = none();
     let mut twice = none();
-    let mut kind: u64 = 0;
-    while kind < LOAD {
-        let tally = sweep(kind, Through::Run);
-        print_kind(rt, kind as usize)?;
-        print_tally(rt, tally)?;
+    for (kind, name) in NAMES.iter().enumerate() {
+        let kind = kind as u64;
+        let tally = runs(kind);
+        print_line(rt, name, tally)?;
         total = joined(total, tally);
-        twice = joined(twice, sweep(kind, Through::OneRowTwice));
-        kind += 1;
+        twice = joined(twice, runs_of_one_row(kind));
     }
-    print_line(rt, b"named twice", twice)?;
+    print_line(rt, "named twice", twice)?;
     Ok(joined(total, twice))
 }
 
 // The tables through `prune`, and the records in them.
 fn print_prunings(rt: &impl Print) -> io::Result<Tally> {
     let tally = pruned();
-    print_line(rt, b"prune", tally)?;
+    print_line(rt, "prune", tally)?;
     let kept = records_kept();
-    print_records(rt, kept, std::num::wrapping_sub_u64(RECORDS, kept))?;
+    print_records(rt, kept, RECORDS.wrapping_sub(kept))?;
     Ok(tally)
 }
 
 fn main(rt: HostRuntime) -> io::Result<()> {
     let tables = print_tables(&rt)?;
-    let bits = sweep(16, Through::ProductBit);
-    print_line(&rt, b"product_bit", bits)?;
-    let pairs = joined(
-        joined(sweep(13, Through::Witnesses), sweep(14, Through::Witnesses)),
-        sweep(16, Through::Witnesses),
-    );
-    print_line(&rt, b"witnesses", pairs)?;
-    let ends = sweep(0, Through::Range);
-    print_line(&rt, b"range", ends)?;
+    let bits = bits(16);
+    print_line(&rt, "product_bit", bits)?;
+    let pairs = joined(joined(witnessed(13), witnessed(14)), witnessed(16));
+    print_line(&rt, "witnesses", pairs)?;
+    let ends = ranges(0);
+    print_line(&rt, "range", ends)?;
     let conclusions = resets();
-    print_line(&rt, b"reset_bits", conclusions)?;
+    print_line(&rt, "reset_bits", conclusions)?;
     let designs = lossless();
-    print_line(&rt, b"lossless", designs)?;
+    print_line(&rt, "lossless", designs)?;
     let lookups = memories();
-    print_line(&rt, b"memory", lookups)?;
+    print_line(&rt, "memory", lookups)?;
     let clocks = settled();
-    print_line(&rt, b"settle", clocks)?;
+    print_line(&rt, "settle", clocks)?;
     let orders = ordered();
-    print_line(&rt, b"compare_states", orders)?;
+    print_line(&rt, "compare_states", orders)?;
     let prunings = print_prunings(&rt)?;
     let shown = examples();
-    print_line(&rt, b"examples", shown)?;
+    print_line(&rt, "examples", shown)?;
     let calls = joined(joined(bits, pairs), joined(ends, conclusions));
     print_line(
         &rt,
-        b"total",
+        "total",
         joined(
             joined(tables, calls),
             joined(

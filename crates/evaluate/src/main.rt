@@ -11,10 +11,7 @@ mod input; // input.rt: the input's bytes, or why they cannot be read
 // Whether the program was given an argument.
 fn has_argument(env: &impl Env) -> bool {
     let mut word = [0u8; 1];
-    match env.arg(1, &mut word) {
-        Err(FillError::NotPresent) => false,
-        _ => true,
-    }
+    !matches!(env.arg(1, &mut word), Err(FillError::NotPresent))
 }
 
 fn main(rt: HostRuntime) -> io::Result<()> {

@@ -1,10 +1,13 @@
 -- What the calls leave, as what is printed. Assumes nothing.
 use mathlib.Core.Path.{◌≡◌, sym, ap, ◌∙◌, subst}
 use mathlib.Core.List.{List}
+use Rattle.std.specs.Prelude.{Result, Ok, Err}
 use Prim.Native.Nat.{ℕ, ◌≤◌}
 use native.Mathlib.Omega.{arith}
 use lib.ListN.{length, drop, length-append}
 use Rattle.checks.specs.Check.{Answer, done, refused}
+use Rattle.checks.specs.Model.{reason_number}
+use Rattle.checks.specs.declared.refusals.Refusal.{Refusal}
 use Rattle.checks.specs.Table.{State, Table, start_of, with_rows, record_count}
 use Rattle.checks.specs.Accepted.{Accepted}
 use Rattle.tables.specs.Run.{Ran, program_of, run_of}
@@ -16,9 +19,10 @@ use Rattle.grammar.specs.Print.{text_of}
 use Rattle.grammar.specs.Lists.{filled}
 use Rattle.grammar.proofs.Sizes.{text-size}
 use Rattle.texts.specs.Calls.{Written, write_of, Counts, ReadBack, read_of, first_of}
+use Rattle.texts.specs.Model.{write_left}
 use Rattle.texts.proofs.ReadLeft.{read-parts}
 use Rattle.texts.proofs.WriteCall.{written}
-use Rattle.evaluation.specs.Evaluate.{Printed, output_room, refused_line, printed_run, printed_table, printed_read, evaluate_in}
+use Rattle.evaluation.specs.Evaluate.{Printed, Told, output_room, refused_line, printed_run, printed_table, printed_read, evaluate_in}
 
 module _ (t : Table) where
   -- run refused
@@ -53,6 +57,24 @@ done-same a b e = cc
 pub printed-as : {x y : List ℕ} {r : ℕ} {old new : List ℕ} → x ≡ y → Printed x r old new → Printed y r old new
 printed-as {old = old} e p = record { count = p.count ∙ ap length e; buffer = p.buffer ∙ ap (λ (l : List ℕ). filled l old) e }
 
+pub told-as : {x y : List ℕ} (a : Result ℕ Refusal) (old new : List ℕ) → x ≡ y → Told x a old new → Told y a old new
+told-as (Ok n) old new e p = printed-as e p
+told-as (Err r) old new e p = (p.0 ∙ e, p.1)
+
+-- a refusal r that is handed on as the answer a
+pub told-refused : {x old new : List ℕ} (a : Result ℕ Refusal) (r : Refusal) → a ≡ Err r → refused_line (reason_number r.reason) r.place ≡ x → new ≡ old → Told x a old new
+told-refused {x} {old} {new} a r e p q = subst (λ (b : Result ℕ Refusal). Told x b old new) (sym e) (p, q)
+
+-- by the answer a that was told: the whole table, and the line of a refusal r that is put after it
+module _ {x old mid : List ℕ} (a : Result ℕ Refusal) (told : Told x a old mid) where
+  pub told-table : (n : ℕ) → a ≡ Ok n → Printed x n old mid
+  told-table n e = subst (λ (b : Result ℕ Refusal). Told x b old mid) e told
+
+  pub told-line : (r : Refusal) → a ≡ Err r → (n k : ℕ) (new : List ℕ) → n ≡ reason_number r.reason → Printed (refused_line n r.place) k mid new → Printed x k old new
+  told-line r e n k new f p =
+      let h : Told x (Err r) old mid = subst (λ (b : Result ℕ Refusal). Told x b old mid) e told in
+      subst (λ (o : List ℕ). Printed x k o new) h.1 (printed-as (ap (λ (j : ℕ). refused_line j r.place) f ∙ h.0) p)
+
 -- the bytes counted are there
 pub printed-within : {x : List ℕ} {r : ℕ} {old new : List ℕ} → Printed x r old new → r ≤ length new
 printed-within {x} {old = old} p = let e = ap length p.buffer ∙ length-append x (drop (length x) old) in let f = p.count in omega arith
@@ -67,6 +89,11 @@ module _ (t : Table) (m : ℕ) (rows : State) (e : ◌≡◌ {A = Ran} (record {
   -- write does not refuse what run accepted
   pub never-refused : (n i : ℕ) (new : List ℕ) → ◌≡◌ {A = Written} (record { answer = refused n i; left = new }) (write_of (with_rows t rows) old) → ⊥
   never-refused n i new w = not_done n i (length (text_of (with_rows t rows))) (ap (λ (x : Written). x.answer) (w ∙ written-done t m rows e old h))
+
+  -- so its answer is the whole table
+  pub told-written : (a : Result ℕ Refusal) (new : List ℕ) → write_left a new ≡ write_of (with_rows t rows) old → Told (printed_table t) a old new
+  told-written (Ok n) new w = print-written n new w
+  told-written (Err r) new w = absurd (never-refused _ _ new w)
 
 -- ---- read
 

@@ -5,15 +5,18 @@
 --   HeldOf text n input     the n bytes are the input, or as much of it as the buffer holds
 --   Printed bytes r old new the bytes are counted by r and put into the buffer
 --   refused_word, refused_line n i   the first field, and the line, of a refusal: its number and its place
+--   Told bytes a old new    by the answer a: the bytes are counted and put into the buffer; or they are the line of the refusal, and the buffer is left
 --   printed_run t r          what run's outcome r on the table t prints
 --   printed_table t          all records of the table t run, and what that prints
 --   printed_read text a      what read's answer a on the text prints;   held_slices   the slices that the program has, all 0
 --   evaluate_in text lent    read into the slices lent, then that;   evaluate_of text   with held_slices
-use Rattle.std.specs.Prelude.{◌≡◌, List, [], ◌∷◌, ◌++◌, ℕ, ◌+◌, ◌*◌, ◌≤◌, length, take, replicate}
+use Rattle.std.specs.Prelude.{◌≡◌, List, [], ◌∷◌, ◌++◌, ℕ, ◌+◌, ◌*◌, ◌≤◌, length, take, replicate, Result, Ok, Err}
 use Rattle.operations.specs.Limits.{record_words}
 use Rattle.checks.specs.Limits.{row_limit, record_limit}
 use Rattle.checks.specs.Check.{Answer, done, refused}
 use Rattle.checks.specs.Table.{Table, with_rows, record_count}
+use Rattle.checks.specs.declared.refusals.Refusal.{Refusal}
+use Rattle.checks.specs.Model.{reason_number}
 use Rattle.tables.specs.Run.{Ran, run_of}
 use Rattle.grammar.specs.Limits.{text_limit, row_bytes, record_bytes}
 use Rattle.grammar.specs.Lists.{filled}
@@ -57,6 +60,10 @@ refused_word = bytes "refused"
 -- "one line of three fields: `refused`, number, place"
 unfoldable pub refused_line : ℕ → ℕ → List ℕ
 refused_line n i = joined tab (refused_word ∷ decimal n ∷ decimal i ∷ []) ++ lf ∷ []
+
+abbrev pub Told : List ℕ → Result ℕ Refusal → List ℕ → List ℕ → Type 0
+Told bytes (Ok n) old new = Printed bytes n old new
+Told bytes (Err r) old new = (refused_line (reason_number r.reason) r.place ≡ bytes) × (new ≡ old)
 
 abbrev pub printed_run : Table → Ran → Answer ℕ → List ℕ
 printed_run t r (done last) = text_of (with_rows t r.left)

@@ -3,14 +3,16 @@
 
 ghost use Rattle.std.specs.Prelude.{◌≡◌, List, ℕ, ◌≤◌, length};
 ghost use Rattle.checks.specs.Model.{lent};
-ghost use Rattle.evaluation.specs.Evaluate.{Printed, Rooms, HeldOf, text_room, output_room, refused_line, printed_table, evaluate_in, evaluate_of};
+ghost use Rattle.evaluation.specs.Evaluate.{Printed, Told, Rooms, HeldOf, text_room, output_room, refused_line, printed_table, evaluate_in, evaluate_of};
 
 use checks::limits::{RECORD_LIMIT, ROW_LIMIT};
+use checks::refusals::Refusal;
+use checks::table::Table;
 use operations::RECORD_WORDS;
 use printing::put::{put_number, put_word};
-use tables::{RunAnswer, run};
+use tables::run;
 use texts::limits::{HEADER_BYTES, RECORD_BYTES, ROW_BYTES, TEXT_LIMIT};
-use texts::{BytesAnswer, ReadAnswer, read, write};
+use texts::{read, write};
 
 // One byte more than a text may have: a buffer that shows a longer input to be longer.
 const TEXT_ROOM: usize = TEXT_LIMIT + 1;
@@ -47,7 +49,7 @@ fn put_refusal(out: &mut [u8], number: u32, place: usize) -> usize
     put_word(out, after_place, b"\n")
 }
 
-// All records of the lent table run, and the whole table or the refusal's line put into the buffer; its bytes are counted.
+// All records of the lent table run, and the whole table put into the buffer; its bytes are counted. A refusal leaves the buffer.
 fn print_table(
     width: &[u8],
     lock: &[u8],
@@ -55,25 +57,24 @@ fn print_table(
     value: &mut [u32],
     words: &[u32],
     out: &mut [u8],
-) -> usize
+) -> Result<usize, Refusal>
     requires { output_room ≤ length out.old }
     ensures { let table = lent width.now lock.now mask.old value.old words.now in
-        Printed (printed_table table) result out.old out.new }
+        Told (printed_table table) result out.old out.new }
 {
     let last = words.len() / RECORD_WORDS;
-    match run(width, lock, mask, value, words, 0, last) {
-        RunAnswer::Refused(r) => {
-            return put_refusal(out, r.number, r.place);
-        }
-        RunAnswer::Done(_) => {}
-    }
-    match write(width, lock, mask, value, words, out) {
-        BytesAnswer::Bytes(n) => n,
-        BytesAnswer::Refused(r) => put_refusal(out, r.number, r.place),
-    }
+    run(width, lock, mask, value, words, 0, last)?;
+    let t = Table {
+        width,
+        lock,
+        mask,
+        value,
+        words,
+    };
+    write(t, out)
 }
 
-// The text read into the lent slices, its records run, and what that prints put into the buffer; its bytes are counted.
+// The text read into the lent slices, its records run, and the whole table put into the buffer; its bytes are counted. A refusal leaves the buffer.
 fn evaluate_in(
     text: &[u8],
     width: &mut [u8],
@@ -82,25 +83,21 @@ fn evaluate_in(
     value: &mut [u32],
     words: &mut [u32],
     out: &mut [u8],
-) -> usize
+) -> Result<usize, Refusal>
     requires { output_room ≤ length out.old }
     ensures { let slices = lent width.old lock.old mask.old value.old words.old in
-        Printed (evaluate_in text.now slices) result out.old out.new }
+        Told (evaluate_in text.now slices) result out.old out.new }
 {
-    match read(text, width, lock, mask, value, words) {
-        ReadAnswer::Refused(r) => put_refusal(out, r.number, r.place),
-        ReadAnswer::Read(rows, records) => {
-            let n = RECORD_WORDS * records;
-            print_table(
-                &width[..rows],
-                &lock[..rows],
-                &mut mask[..rows],
-                &mut value[..rows],
-                &words[..n],
-                out,
-            )
-        }
-    }
+    let c = read(text, width, lock, mask, value, words)?;
+    let n = RECORD_WORDS * c.records;
+    print_table(
+        &width[..c.rows],
+        &lock[..c.rows],
+        &mut mask[..c.rows],
+        &mut value[..c.rows],
+        &words[..n],
+        out,
+    )
 }
 
 // What `evaluate` prints for a text, put into the buffer from its start; its bytes are counted.
@@ -113,9 +110,12 @@ fn evaluate_text(text: &[u8], out: &mut [u8]) -> usize
     let mut mask = [0u32; ROW_LIMIT];
     let mut value = [0u32; ROW_LIMIT];
     let mut words = [0u32; HELD_WORDS];
-    evaluate_in(
+    match evaluate_in(
         text, &mut width, &mut lock, &mut mask, &mut value, &mut words, out,
-    )
+    ) {
+        Ok(n) => n,
+        Err(r) => put_refusal(out, r.reason.number(), r.place),
+    }
 }
 
 // What `evaluate` prints for an input, of which the first bytes, as many as the buffer holds, were put at the buffer's start: n of them.

@@ -2,52 +2,44 @@
 use mathlib.Core.Path.{◌≡◌, refl, sym, ap, subst, subst₂, ◌∙◌}
 use mathlib.Core.Bool.{not, ◌&&◌}
 use mathlib.Core.List.{List, [], ◌∷◌}
-use Prim.Native.Nat.{ℕ, zero, suc, ◌≤◌}
-use native.Mathlib.Nat.{le_of_suc-le-suc}
-use native.Mathlib.Decide.{ℕ_discrete}
-use native.Mathlib.Omega.{arith}
-use lib.Arith.{lt_of_le-ne}
+use Prim.Native.Nat.{ℕ}
 use lib.Dec.{T, eqb, eqb→eq}
 use Rattle.bits.proofs.Bools.{T-left, T-right, T_not-not}
 use Rattle.vectors.specs.Row.{Row, row}
 use Rattle.operations.specs.Kind.{Use, unused, asks, Rule, Kind, same_width, same_widths, compared_widths}
 use Rattle.operations.specs.Record.{operands}
 use Rattle.operations.specs.Faults.{misused}
+use Rattle.operations.specs.declared.kind.Kind.{Kind as KindCase}
+use Rattle.operations.specs.KindNumbers.{kind_number}
 use Rattle.operations.specs.Kinds.{kind_of}
 use Rattle.operations.specs.Result.{widths_of, result_of, Ready}
 
--- ---- the last arm of a match
-
--- n is none of the numbers 1 to m
-abbrev pub Excluded : ℕ → ℕ → Type 0
-Excluded zero n = Unit {0}
-Excluded (suc m) n = Excluded m n × (n ≡ suc m → ⊥)
-
--- of 0 to m, 0 is left
-pub zero_left : (n m : ℕ) → n ≤ m → Excluded m n → n ≡ 0
-zero_left n zero h r = omega arith
-zero_left n (suc m) h r =
-    elim (ℕ_discrete n (suc m)) [
-      | yes e ↦ absurd (r.1 e)
-      | no d ↦ zero_left n m (le_of_suc-le-suc (lt_of_le-ne h d)) r.0
-    ]
-
 -- ---- an arm: a kind's operands as its kernel names them
+
+-- the description of a declared kind
+abbrev pub described : KindCase → Kind
+described kind = kind_of (kind_number kind)
+
+pub kind_is : {kind k : KindCase} → kind ≡ k → described kind ≡ described k
+kind_is e = ap described e
 
 -- what the dispatch is given: the target's width, the parameter, and the rows that the words a, b and the sixth would name
 pub record Given : Type 0 where
-  pub kind : ℕ
+  pub kind : KindCase
   pub wt : ℕ
   pub p : ℕ
   pub ra : Row
   pub rb : Row
   pub rc : Row
-  pub ready : Ready (kind_of kind) wt p (operands (kind_of kind) ra rb (rc ∷ []))
+  pub ready : Ready (described kind) wt p (operands (described kind) ra rb (rc ∷ []))
+
+abbrev pub given : (kind : KindCase) {wt p : ℕ} (ra rb rc : Row) → Ready (described kind) wt p (operands (described kind) ra rb (rc ∷ [])) → Given
+given kind {wt} {p} ra rb rc ready = record { kind = kind; wt = wt; p = p; ra = ra; rb = rb; rc = rc; ready = ready }
 
 -- a kernel of kind k that is called with width w, parameter q and these rows has what it asks for, and its result is the one that is due
 pub record Arm (g : Given) (k : Kind) (w q : ℕ) (rows : List Row) : Type 0 where
   pub asks : Ready k w q rows
-  pub gives : result_of k w q rows ≡ result_of (kind_of g.kind) g.wt g.p (operands (kind_of g.kind) g.ra g.rb (g.rc ∷ []))
+  pub gives : result_of k w q rows ≡ result_of (described g.kind) g.wt g.p (operands (described g.kind) g.ra g.rb (g.rc ∷ []))
 
 -- the shapes that several kinds have: one operand of the target's width, two of them, and two of one width with a target of width 1
 abbrev pub SameRow : Given → Kind → ℕ → Type 0
@@ -59,15 +51,12 @@ SameRows g k = Arm g k g.wt 0 (row g.wt g.ra.mask g.ra.value ∷ row g.wt g.rb.m
 abbrev pub ComparedRows : Given → Kind → Type 0
 ComparedRows g k = (g.wt ≡ 1) × Arm g k 1 0 (g.ra ∷ row g.ra.width g.rb.mask g.rb.value ∷ [])
 
-module _ (k : Kind) (n : ℕ) (own : kind_of n ≡ k) (g : Given) (e : g.kind ≡ n) where
-  is-kind : kind_of g.kind ≡ k
-  is-kind = ap kind_of e ∙ own
-
+module _ (g : Given) (k : Kind) (e : described g.kind ≡ k) where
   pub ready_of : Ready k g.wt g.p (operands k g.ra g.rb (g.rc ∷ []))
-  ready_of = subst (λ (j : Kind). Ready j g.wt g.p (operands j g.ra g.rb (g.rc ∷ []))) is-kind g.ready
+  ready_of = subst (λ (j : Kind). Ready j g.wt g.p (operands j g.ra g.rb (g.rc ∷ []))) e g.ready
 
-  pub result-of : result_of k g.wt g.p (operands k g.ra g.rb (g.rc ∷ [])) ≡ result_of (kind_of g.kind) g.wt g.p (operands (kind_of g.kind) g.ra g.rb (g.rc ∷ []))
-  result-of = ap (λ (j : Kind). result_of j g.wt g.p (operands j g.ra g.rb (g.rc ∷ []))) (sym is-kind)
+  pub result-of : result_of k g.wt g.p (operands k g.ra g.rb (g.rc ∷ [])) ≡ result_of (described g.kind) g.wt g.p (operands (described g.kind) g.ra g.rb (g.rc ∷ []))
+  result-of = ap (λ (j : Kind). result_of j g.wt g.p (operands j g.ra g.rb (g.rc ∷ []))) (sym e)
 
   -- the same width, parameter and rows under other names
   pub arm : {w q : ℕ} {rows : List Row} → g.wt ≡ w → g.p ≡ q → operands k g.ra g.rb (g.rc ∷ []) ≡ rows → Arm g k w q rows

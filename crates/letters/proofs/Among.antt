@@ -2,7 +2,6 @@
 --   Left b l i   whether b stands in l is told by what follows the first i
 --   found, passed, at-end   the letter is b; it is not; there is none left;   found_from   of what follows the first i, where the letter is b
 --   in-edition   the letters of an edition that was told
---   first_of, second-of, third_of   a letter of one of three lists;   digit-is   the bit of an answer
 use mathlib.Core.Path.{◌≡◌, sym, ap, ◌∙◌}
 use mathlib.Core.Bool.{Bool, true, false, ◌||◌}
 use mathlib.Core.List.{List}
@@ -12,7 +11,6 @@ use lib.Dec.{eqb}
 use lib.ListN.{length, get_or, drop}
 use lib.Seq.{drop-cons, drop-length}
 use borrow.Author.Tests.{eq-eqb, ne_eqb}
-use Rattle.bits.specs.Bit.{digit}
 use Rattle.grammar.specs.Lists.{is_in}
 use Rattle.grammar.specs.Words.{Alphabet}
 use Rattle.letters.specs.declared.Edition.{Edition}
@@ -45,15 +43,3 @@ found_from b l i h e =
 -- of the letters for 0, for 1 or for X, in the edition e that was found to be x
 pub in-edition : (letters : Alphabet → List ℕ) (b : ℕ) (e x : Edition) (r : Bool) → e ≡ x → r ≡ is_in b (letters (edition_model x).letters) → r ≡ is_in b (letters (edition_model e).letters)
 in-edition letters b e x r is h = h ∙ ap (λ (y : Edition). is_in b (letters (edition_model y).letters)) (sym is)
-
-pub first_of : (r s t x : Bool) → r ≡ x → r ≡ true → true ≡ (x || s || t)
-first_of r s t x e is = sym (ap (λ (y : Bool). y || s || t) (sym e ∙ is))
-
-pub second-of : (r q t x y : Bool) → r ≡ x → q ≡ y → r ≡ false → q ≡ true → true ≡ (x || y || t)
-second-of r q t x y e f n is = sym (λ i. (sym e ∙ n) i || (sym f ∙ is) i || t)
-
-pub third_of : (r q p x y z : Bool) → r ≡ x → q ≡ y → p ≡ z → r ≡ false → q ≡ false → p ≡ (x || y || z)
-third_of r q p x y z e f g n m = g ∙ sym (λ i. (sym e ∙ n) i || (sym f ∙ m) i || z)
-
-pub digit-is : (r x y : Bool) → r ≡ x → r ≡ y → digit y ≡ digit x
-digit-is r x y e is = ap digit (sym is ∙ e)

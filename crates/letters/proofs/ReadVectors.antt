@@ -4,7 +4,7 @@
 use mathlib.Core.Path.{◌≡◌, refl, sym, ap, ap₂, ◌∙◌, subst}
 use mathlib.Core.Bool.{Bool, true, false}
 use mathlib.Core.List.{List, [], ◌∷◌}
-use mathlib.Core.Option.{Option, some, none}
+use Rattle.std.specs.Prelude.{Option, Some, None}
 use Prim.Native.Nat.{ℕ, suc, ◌+◌, ◌*◌, ◌^◌, ◌≤◌, ◌<◌}
 use native.Mathlib.Nat.{pow-suc, pow-le-pow_right, zero-lt-suc}
 use native.Mathlib.Numerals.{add-one}
@@ -30,16 +30,16 @@ use Rattle.letters.proofs.Telling.{tells, tells-not}
 abbrev pub Read : Alphabet → List ℕ → Option Row → Type 0
 Read a f o = o ≡ reading (is_vector a f) (vector_of a f)
 
-bad : (a : Alphabet) (f : List ℕ) → (Letters a f → ⊥) → Read a f none
+bad : (a : Alphabet) (f : List ℕ) → (Letters a f → ⊥) → Read a f None
 bad a f h = tells-not (is_vector a f) (vector_of a f) (λ t. h (vector-tests a f t))
 
-pub too_short : (a : Alphabet) (f : List ℕ) → length f ≡ 0 → Read a f none
+pub too_short : (a : Alphabet) (f : List ℕ) → length f ≡ 0 → Read a f None
 too_short a f e = bad a f (λ v. omega (arith, v.some))
 
-pub too_long : (a : Alphabet) (f : List ℕ) → width_limit < length f → Read a f none
+pub too_long : (a : Alphabet) (f : List ℕ) → width_limit < length f → Read a f None
 too_long a f e = bad a f (λ v. omega (arith, v.few))
 
-pub no-letter : (a : Alphabet) (f : List ℕ) (i : ℕ) → i < length f → (r : Bool) → r ≡ is_letter a (get_or f i 0) → r ≡ false → Read a f none
+pub no-letter : (a : Alphabet) (f : List ℕ) (i : ℕ) → i < length f → (r : Bool) → r ≡ is_letter a (get_or f i 0) → r ≡ false → Read a f None
 no-letter a f i h r e z = bad a f (λ v. subst (λ (b : Bool). T b) (sym e ∙ z) (all-at (is_letter a) f 0 i h v.letters))
 
 -- ---- the loop
@@ -84,7 +84,7 @@ module _ (a : Alphabet) (f : List ℕ) (i m v x y : ℕ) (r : Bool) (h : i < len
         value_rest = rest (value_bit a) v y ey s.value_rest;
       }
 
-pub done : (a : Alphabet) (f : List ℕ) (i m v : ℕ) → length f ≤ i → i ≤ length f → (length f ≡ 0 → ⊥) → length f ≤ width_limit → SoFar a f i m v → Read a f (some (row (length f) m v))
+pub done : (a : Alphabet) (f : List ℕ) (i m v : ℕ) → length f ≤ i → i ≤ length f → (length f ≡ 0 → ⊥) → length f ≤ width_limit → SoFar a f i m v → Read a f (Some (row (length f) m v))
 unfolding numeral
 done a f i m v h h' l u s =
     let e : i ≡ length f = omega arith in

@@ -17,22 +17,19 @@ pub enum Edition {
     Third,
 }
 
-// What a field tells where it stands for a vector.
+// The vector that a field of letters tells.
 #[derive(Clone, Copy)]
-pub enum VectorField {
-    Vector { width: u32, mask: u32, value: u32 },
-    Bad,
+pub struct VectorField {
+    pub width: u32,
+    pub mask: u32,
+    pub value: u32,
 }
 
 // Is the edition older than edition 3?
 pub fn is_older(e: Edition) -> bool
     ensures { result ≡ (edition_model e).older }
 {
-    match e {
-        Edition::First => true,
-        Edition::Second => true,
-        Edition::Third => false,
-    }
+    matches!(e, Edition::First | Edition::Second)
 }
 
 // Is `b` one of the letters?
@@ -40,15 +37,15 @@ pub fn is_older(e: Edition) -> bool
 fn is_among(b: u8, letters: &[u8]) -> bool
     ensures { result ≡ is_in b letters.now }
 {
-    let mut i = 0;
-    while i < letters.len() {
+    for i in 0..letters.len() {
         if letters[i] == b {
             return true;
         }
-        i += 1;
     }
     false
 }
+
+// Three matches, one for each of 0, 1 and X: one for all would answer a struct of the same nine words.
 
 // Does `b` stand for 0?
 fn is_zero(e: Edition, b: u8) -> bool
@@ -86,54 +83,46 @@ fn is_unknown(e: Edition, b: u8) -> bool
 fn is_letter(e: Edition, b: u8) -> bool
     ensures { result ≡ is_letter (edition_model e).letters b }
 {
-    if is_zero(e, b) {
-        return true;
-    }
-    if is_one(e, b) {
-        return true;
-    }
-    is_unknown(e, b)
+    is_zero(e, b) || is_one(e, b) || is_unknown(e, b)
 }
 
 fn mask_bit(e: Edition, b: u8) -> u32
     ensures { result ≡ mask_bit (edition_model e).letters b }
 {
-    if is_unknown(e, b) { 1 } else { 0 }
+    u32::from(is_unknown(e, b))
 }
 
 fn value_bit(e: Edition, b: u8) -> u32
     ensures { result ≡ value_bit (edition_model e).letters b }
 {
-    if is_one(e, b) { 1 } else { 0 }
+    u32::from(is_one(e, b))
 }
 
-// The vector that a field tells.
-pub fn vector(e: Edition, f: &[u8]) -> VectorField
+// The vector that a field stands for.
+pub fn vector(e: Edition, f: &[u8]) -> Option<VectorField>
     ensures { let a = (edition_model e).letters in
         vector_model result ≡ reading (is_vector a f.now) (vector_of a f.now) }
 {
     let len = f.len();
     if len == 0 {
-        return VectorField::Bad;
+        return None;
     }
     if WIDTH_LIMIT < len {
-        return VectorField::Bad;
+        return None;
     }
     let mut m: u32 = 0;
     let mut v: u32 = 0;
-    let mut i = 0;
-    while i < len {
+    for i in 0..len {
         let b = f[i];
         if !is_letter(e, b) {
-            return VectorField::Bad;
+            return None;
         }
         m = m * 2 + mask_bit(e, b);
         v = v * 2 + value_bit(e, b);
-        i += 1;
     }
-    VectorField::Vector {
+    Some(VectorField {
         width: len as u32,
         mask: m,
         value: v,
-    }
+    })
 }

@@ -2,11 +2,11 @@
 --   named              what a list of kinds says of a name
 --   kind-here, kind-later, kind-none   the ways out of the search
 --   all_kinds          the first of all kinds, as many as there are;   all-few   there are no fewer
---   named-known        the number of a name is a kind's;   row-use, other-use   the code for a word that is a row, and any other
-use mathlib.Core.Path.{◌≡◌, refl, sym, ap, ◌∙◌, subst}
+--   named-known        the number of a name is a kind's
+use mathlib.Core.Path.{◌≡◌, sym, ap, ◌∙◌, subst}
 use mathlib.Core.Bool.{Bool, true, false, cond, ◌&&◌, ◌||◌}
 use mathlib.Core.List.{List, ◌∷◌}
-use mathlib.Core.Option.{Option, some, none}
+use Rattle.std.specs.Prelude.{Option, Some, None}
 use Prim.Native.Nat.{ℕ, suc, ◌+◌, ◌≤◌, ◌<◌}
 use native.Mathlib.Numerals.{add-one}
 use native.Mathlib.Omega.{arith}
@@ -15,8 +15,7 @@ use lib.ListN.{length, get_or, take, drop, drop_of_length-le}
 use lib.Seq.{drop-cons, get_or-take, length-take-le, take_all}
 use Rattle.bits.specs.Below.{all_below}
 use Rattle.bits.proofs.Bools.{T-left, T-right}
-use Rattle.operations.specs.Kind.{Use, as_row, as_number, as_count, as_base, unused, is_row, Kind}
-use Rattle.operations.specs.Encoding.{use_code}
+use Rattle.operations.specs.Kind.{Kind}
 use Rattle.operations.specs.Kinds.{kinds, kind_count, op_none, is_kind, kind_of}
 use Rattle.operations.proofs.Lookup.{kind-test, below-kind}
 use Rattle.vectors.specs.Lists.{all_of}
@@ -68,13 +67,13 @@ module _ (f : List ℕ) (n k : ℕ) (most : n ≤ kind_count) where
     abbrev by : Bool → Option ℕ
     by b = reading (b || is_name f (drop (suc k) ks)) (cond b at.number (number_named f (drop (suc k) ks)))
 
-    pub kind-here : r ≡ true → named f (drop k ks) ≡ some k
-    kind-here t = ap (named f) here ∙ ap by (answer ∙ t) ∙ ap some number_at
+    pub kind-here : r ≡ true → named f (drop k ks) ≡ Some k
+    kind-here t = ap (named f) here ∙ ap by (answer ∙ t) ∙ ap Some number_at
 
     pub kind-later : r ≡ false → named f (drop k ks) ≡ named f (drop (k + 1) ks)
     kind-later t = ap (named f) here ∙ ap by (answer ∙ t) ∙ ap (λ (j : ℕ). named f (drop j ks)) (sym (add-one k))
 
-  pub kind-none : n ≤ k → named f (drop k ks) ≡ none
+  pub kind-none : n ≤ k → named f (drop k ks) ≡ None
   kind-none h = ap (named f) (drop_of_length-le ks {i = k} (omega (arith, length-ks)))
 
 -- as many as there are, are all
@@ -99,19 +98,3 @@ pub named-known : (f : List ℕ) (k : ℕ) → T (is_name f (take older_kinds ki
 named-known f k t e =
     let h = by_name is_numbered f (take older_kinds kinds) t older-numbered in
     subst (λ (n : ℕ). T (is_kind n)) (h.number_is ∙ sym e) h.passes
-
--- ---- the use of a word, by its code
-
-pub row-use : (u : Use) (x : ℕ) → x ≡ use_code u → x ≡ 1 → is_row u ≡ true
-row-use as_row x e h = refl
-row-use as_number x e h = absurd (omega arith)
-row-use as_count x e h = absurd (omega arith)
-row-use as_base x e h = absurd (omega arith)
-row-use unused x e h = absurd (omega arith)
-
-pub other-use : (u : Use) (x : ℕ) → x ≡ use_code u → (x ≡ 1 → ⊥) → is_row u ≡ false
-other-use as_row x e h = absurd (h e)
-other-use as_number x e h = refl
-other-use as_count x e h = refl
-other-use as_base x e h = refl
-other-use unused x e h = refl

@@ -5,7 +5,6 @@ pub mod Compare
 pub mod Headers
 pub mod KindNames
 pub mod ReadNumbers
-pub mod ReadRows
 pub mod ReadRecords
 pub mod ReadLines
 pub mod OpLines

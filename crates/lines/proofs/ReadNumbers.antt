@@ -4,7 +4,7 @@
 use mathlib.Core.Path.{◌≡◌, refl, sym, ap, ◌∙◌, subst}
 use mathlib.Core.Bool.{true, not}
 use mathlib.Core.List.{List, [], ◌∷◌}
-use mathlib.Core.Option.{Option, some, none}
+use Rattle.std.specs.Prelude.{Option, Some, None}
 use Prim.Native.Nat.{ℕ, suc, ◌+◌, ◌-◌, ◌*◌, ◌≤◌, ◌<◌}
 use native.Mathlib.Numerals.{add-one}
 use native.Mathlib.Omega.{arith}
@@ -26,16 +26,16 @@ use Rattle.letters.proofs.Telling.{tells, tells-not}
 abbrev pub Read : List ℕ → Option ℕ → Type 0
 Read f o = o ≡ reading (is_number f) (number_of f)
 
-bad : (f : List ℕ) → (Number f → ⊥) → Read f none
+bad : (f : List ℕ) → (Number f → ⊥) → Read f None
 bad f h = tells-not (is_number f) (number_of f) (λ t. h (number-tests f t))
 
-pub too_short : (f : List ℕ) → length f ≡ 0 → Read f none
+pub too_short : (f : List ℕ) → length f ≡ 0 → Read f None
 too_short f e = bad f (λ n. omega (arith, n.some))
 
-pub too-low : (f : List ℕ) (i b : ℕ) → i < length f → b ≡ get_or f i 0 → b < 48 → Read f none
+pub too-low : (f : List ℕ) (i b : ℕ) → i < length f → b ≡ get_or f i 0 → b < 48 → Read f None
 too-low f i b h e l = bad f (λ n. omega (arith, digit-least (get_or f i 0) (all-at is_digit f 0 i h n.all_digits)))
 
-pub too-high : (f : List ℕ) (i b : ℕ) → i < length f → b ≡ get_or f i 0 → 57 < b → Read f none
+pub too-high : (f : List ℕ) (i b : ℕ) → i < length f → b ≡ get_or f i 0 → 57 < b → Read f None
 too-high f i b h e l = bad f (λ n. omega (arith, digit-most (get_or f i 0) (all-at is_digit f 0 i h n.all_digits)))
 
 zero-first : (f : List ℕ) → get_or f 0 0 ≡ 48 → (length f ≡ 1 → ⊥) → T (not (leading_zero f)) → ⊥
@@ -43,13 +43,13 @@ zero-first [] e l t = omega arith
 zero-first (b ∷ []) e l t = l refl
 zero-first (b ∷ c ∷ f) e l t = neqb→ne b 48 t e
 
-pub leading-zero : (f : List ℕ) → get_or f 0 0 ≡ 48 → (length f ≡ 1 → ⊥) → Read f none
+pub leading-zero : (f : List ℕ) → get_or f 0 0 ≡ 48 → (length f ≡ 1 → ⊥) → Read f None
 leading-zero f e l = bad f (λ n. zero-first f e l n.no_zero)
 
-pub just-zero : (f : List ℕ) → get_or f 0 0 ≡ 48 → length f ≡ 1 → Read f (some 0)
+pub just-zero : (f : List ℕ) → get_or f 0 0 ≡ 48 → length f ≡ 1 → Read f (Some 0)
 unfolding is_number number_of numeral all_of
 just-zero [] e l = absurd (omega arith)
-just-zero (b ∷ []) e l = subst (λ (x : ℕ). Read (x ∷ []) (some 0)) (sym e) (tells true 0 0 tt refl)
+just-zero (b ∷ []) e l = subst (λ (x : ℕ). Read (x ∷ []) (Some 0)) (sym e) (tells true 0 0 tt refl)
 just-zero (b ∷ c ∷ f) e l = absurd (omega arith)
 
 -- ---- the loop
@@ -78,7 +78,7 @@ module _ (f : List ℕ) (i n b : ℕ) (h : i < length f) (e : b ≡ get_or f i 0
       ∙ sym (ap (numeral 10 digit_of n) (drop-cons f i 0 h))
       ∙ s.rest
 
-  pub too-great : number_limit < n * 10 + (b - 48) → Read f none
+  pub too-great : number_limit < n * 10 + (b - 48) → Read f None
   too-great l = bad f (λ q. omega (arith, q.small, next, numeral-least (n * 10 + (b - 48)) (drop (i + 1) f)))
 
   pub more : n * 10 + (b - 48) ≤ number_limit → SoFar f (i + 1) (n * 10 + (b - 48))
@@ -95,7 +95,7 @@ not-zero [] z = tt
 not-zero (b ∷ []) z = tt
 not-zero (b ∷ c ∷ f) z = ne→neqb b 48 z
 
-pub done : (f : List ℕ) (i n : ℕ) → length f ≤ i → i ≤ length f → (length f ≡ 0 → ⊥) → (get_or f 0 0 ≡ 48 → ⊥) → SoFar f i n → Read f (some n)
+pub done : (f : List ℕ) (i n : ℕ) → length f ≤ i → i ≤ length f → (length f ≡ 0 → ⊥) → (get_or f 0 0 ≡ 48 → ⊥) → SoFar f i n → Read f (Some n)
 unfolding numeral
 done f i n h h' l z s =
     let e : i ≡ length f = omega arith in

@@ -5,7 +5,7 @@
 use mathlib.Core.Path.{◌≡◌, sym, ap, ◌∙◌, subst}
 use mathlib.Core.Bool.{Bool, ◌&&◌}
 use mathlib.Core.List.{List, [], ◌∷◌}
-use mathlib.Core.Option.{Option, some, none}
+use Rattle.std.specs.Prelude.{Option, Some, None}
 use Prim.Native.Nat.{ℕ, ◌<◌}
 use lib.Dec.{T}
 use lib.ListN.{get_or, take}
@@ -23,8 +23,6 @@ use Rattle.grammar.proofs.Tests.{all_of-append, all-at, all_cons, all_one}
 use Rattle.letters.specs.Reads.{reading}
 use Rattle.letters.proofs.Telling.{tells, tells-not, told, untold}
 use Rattle.lines.specs.Model.{record_model, record_told}
-use Rattle.lines.specs.declared.records.RecordField.{RecordField}
-use Rattle.lines.specs.declared.records.RecordField.TheVariants.{Good, Bad}
 use Rattle.lines.proofs.ReadNumbers as Number
 use Rattle.lines.proofs.KindNames.{named, all_kinds, named-known}
 
@@ -45,17 +43,17 @@ module _ (name t a b p : List ℕ) where
   -- ---- a name and four numbers
 
   module _ (ks : List Kind) where
-    pub four-no-name : none ≡ named name ks → Four ks none
+    pub four-no-name : None ≡ named name ks → Four ks None
     four-no-name o = tells-not (passes ks) (made ks) (λ u. untold (is_name name ks) (number_named name ks) o (T-left (is_name name ks) (all_of is_number fields) u))
 
     -- number i of the four is none
-    pub four-bad : (i : ℕ) → i < 4 → Number.Read (get_or fields i []) none → Four ks none
+    pub four-bad : (i : ℕ) → i < 4 → Number.Read (get_or fields i []) None → Four ks None
     four-bad i l o =
         tells-not (passes ks) (made ks)
         (λ u. untold (is_number (get_or fields i [])) (number_of (get_or fields i [])) o (all-at is_number fields [] i l (T-right (is_name name ks) (all_of is_number fields) u)))
 
-    pub four-good : (k x y z w : ℕ) → some k ≡ named name ks → Number.Read t (some x) → Number.Read a (some y) → Number.Read b (some z) → Number.Read p (some w)
-        → Four ks (some (k ∷ x ∷ y ∷ z ∷ w ∷ 0 ∷ []))
+    pub four-good : (k x y z w : ℕ) → Some k ≡ named name ks → Number.Read t (Some x) → Number.Read a (Some y) → Number.Read b (Some z) → Number.Read p (Some w)
+        → Four ks (Some (k ∷ x ∷ y ∷ z ∷ w ∷ 0 ∷ []))
     four-good k x y z w ek ex ey ez ew =
         let gk = told (is_name name ks) (number_named name ks) k ek in
         let gx = told (is_number t) (number_of t) x ex in
@@ -77,11 +75,11 @@ module _ (name t a b p : List ℕ) where
   placed ws = kind_word ws ∷ extended (is_row (kind_of (kind_word ws)).use_c) 0 (target_word ws ∷ first_word ws ∷ second_word ws ∷ parameter_word ws ∷ [])
 
   -- by the answer q for the name and the four numbers
-  pub older-none : (q : RecordField) → Four older (record_model q) → q ≡ Bad → none ≡ record_told edition1 name fields
+  pub older-none : (q : Option Record) → Four older (record_model q) → q ≡ None → None ≡ record_told edition1 name fields
   older-none q found is = tells-not (passes older) (placed (made older)) (untold (passes older) (made older) (sym (ap record_model is) ∙ found))
 
-  module _ (q : RecordField) (found : Four older (record_model q)) (r : Record) (is : q ≡ Good r) where
-    o : Four older (some (words_of r))
+  module _ (q : Option Record) (found : Four older (record_model q)) (r : Record) (is : q ≡ Some r) where
+    o : Four older (Some (words_of r))
     o = sym (ap record_model is) ∙ found
 
     pub older-known : T (is_kind r.kind)
@@ -89,7 +87,7 @@ module _ (name t a b p : List ℕ) where
         let g = told (passes older) (made older) (words_of r) o in
         named-known name r.kind (T-left (is_name name older) (all_of is_number fields) g.0) (ap kind_word g.1)
 
-    pub older-good : (ws : List ℕ) → ws ≡ r.kind ∷ extended (is_row (kind_of r.kind).use_c) 0 (r.t ∷ r.a ∷ r.b ∷ r.p ∷ []) → some ws ≡ record_told edition1 name fields
+    pub older-good : (ws : List ℕ) → ws ≡ r.kind ∷ extended (is_row (kind_of r.kind).use_c) 0 (r.t ∷ r.a ∷ r.b ∷ r.p ∷ []) → Some ws ≡ record_told edition1 name fields
     older-good ws e =
         let g = told (passes older) (made older) (words_of r) o in
         tells (passes older) (placed (made older)) ws g.0 (e ∙ ap placed g.1)
@@ -115,10 +113,10 @@ module _ (name t a b p : List ℕ) where
     all-of : (o : Option (List ℕ)) → Four (take 26 kinds) o → Four kinds o
     all-of o h = subst (λ (ks : List Kind). Four ks o) all_kinds h
 
-    pub third-none : (q : RecordField) → Four (take 26 kinds) (record_model q) → q ≡ Bad → none ≡ record_told edition3 name all_fields
-    third-none q found is = tells-not passes_all made_all (λ u. untold (passes kinds) (made kinds) (all-of none (sym (ap record_model is) ∙ found)) (first-four u))
+    pub third-none : (q : Option Record) → Four (take 26 kinds) (record_model q) → q ≡ None → None ≡ record_told edition3 name all_fields
+    third-none q found is = tells-not passes_all made_all (λ u. untold (passes kinds) (made kinds) (all-of None (sym (ap record_model is) ∙ found)) (first-four u))
 
-    pub third-bad : Number.Read c none → none ≡ record_told edition3 name all_fields
+    pub third-bad : Number.Read c None → None ≡ record_told edition3 name all_fields
     third-bad o =
         tells-not passes_all made_all
         (λ u. untold (is_number c) (number_of c) o (all-last (T-right (is_name name kinds) (all_of is_number all_fields) u)))
@@ -126,10 +124,10 @@ module _ (name t a b p : List ℕ) where
         all-last : T (all_of is_number all_fields) → T (is_number c)
         all-last u = (all_of-all is_number all_fields u).1.1.1.1.0
 
-    pub third-good : (q : RecordField) → Four (take 26 kinds) (record_model q) → (r : Record) → q ≡ Good r → (x : ℕ) → Number.Read c (some x)
-        → some (r.kind ∷ r.t ∷ r.a ∷ r.b ∷ r.p ∷ x ∷ []) ≡ record_told edition3 name all_fields
+    pub third-good : (q : Option Record) → Four (take 26 kinds) (record_model q) → (r : Record) → q ≡ Some r → (x : ℕ) → Number.Read c (Some x)
+        → Some (r.kind ∷ r.t ∷ r.a ∷ r.b ∷ r.p ∷ x ∷ []) ≡ record_told edition3 name all_fields
     third-good q found r is x ex =
-        let g = told (passes kinds) (made kinds) (words_of r) (all-of (some (words_of r)) (sym (ap record_model is) ∙ found)) in
+        let g = told (passes kinds) (made kinds) (words_of r) (all-of (Some (words_of r)) (sym (ap record_model is) ∙ found)) in
         let gx = told (is_number c) (number_of c) x ex in
         tells passes_all made_all (r.kind ∷ r.t ∷ r.a ∷ r.b ∷ r.p ∷ x ∷ [])
         (T_and (is_name name kinds) (all_of is_number all_fields) (T-left (is_name name kinds) (all_of is_number fields) g.0)

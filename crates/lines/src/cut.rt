@@ -8,14 +8,12 @@ pub fn end_of(text: &[u8], from: usize, sep: u8) -> usize
     requires { from ≤ length text.now }
     ensures { (result ≡ from + before sep (drop from text.now)) × (result ≤ length text.now) }
 {
-    let mut i = from;
-    while i < text.len() {
+    for i in from..text.len() {
         if text[i] == sep {
             return i;
         }
-        i += 1;
     }
-    i
+    text.len()
 }
 
 // Where part `n`, from 1, of a text cut at `sep` begins; the length where there are fewer parts, and 0 for part 0.
@@ -27,14 +25,12 @@ pub fn start_of(text: &[u8], n: usize, sep: u8) -> usize
     }
     let len = text.len();
     let mut at: usize = 0;
-    let mut left = n - 1;
-    while 0 < left {
+    for _ in 1..n {
         let e = end_of(text, at, sep);
         if e == len {
             return e;
         }
         at = e + 1;
-        left -= 1;
     }
     at
 }
@@ -56,12 +52,10 @@ pub fn count_parts(text: &[u8], sep: u8) -> usize
     ensures { result ≡ length (pieces sep text.now) }
 {
     let mut n: usize = 1;
-    let mut i = 0;
-    while i < text.len() {
+    for i in 0..text.len() {
         if text[i] == sep {
             n += 1;
         }
-        i += 1;
     }
     n
 }

@@ -7,11 +7,10 @@ ghost use Rattle.letters.specs.Model.{edition_model};
 ghost use Rattle.lines.specs.Model.{line_model, record_model, line_told};
 
 use crate::cut::{count_parts, part};
-use crate::fields::NumberField;
-use crate::records::{RecordField, older_record, third_record};
+use crate::records::{older_record, third_record};
 use crate::words::{is_word, lock_of};
 use grammar::TAB;
-use letters::{Edition, VectorField, is_older, vector};
+use letters::{Edition, is_older, vector};
 use operations::{RECORD_WORDS, Record};
 
 // A row line by lock, width, mask and value; a record line by its record; a line outside the grammar.
@@ -26,22 +25,22 @@ pub enum Found {
 fn row_line(e: Edition, lock: &[u8], letters: &[u8]) -> Found
     ensures { line_model result ≡ row_of (edition_model e) (lock.now ∷ letters.now ∷ []) }
 {
-    match lock_of(lock) {
-        NumberField::Bad => Found::Outside,
-        NumberField::Number(l) => match vector(e, letters) {
-            VectorField::Bad => Found::Outside,
-            VectorField::Vector { width, mask, value } => Found::Row(l, width, mask, value),
-        },
-    }
+    let Some(l) = lock_of(lock) else {
+        return Found::Outside;
+    };
+    let Some(v) = vector(e, letters) else {
+        return Found::Outside;
+    };
+    Found::Row(l, v.width, v.mask, v.value)
 }
 
 // The line of a record, or none.
-fn line_of(r: RecordField) -> Found
+fn line_of(r: Option<Record>) -> Found
     ensures { line_model result ≡ line_told (record_model r) }
 {
     match r {
-        RecordField::Good(x) => Found::Record(x),
-        RecordField::Bad => Found::Outside,
+        Some(x) => Found::Record(x),
+        None => Found::Outside,
     }
 }
 

@@ -9,20 +9,14 @@ ghost use Rattle.grammar.specs.Line.{is_number, number_of, is_name, number_named
 ghost use Rattle.letters.specs.Reads.{reading};
 ghost use Rattle.lines.specs.Model.{record_model, record_told};
 
-use crate::fields::{NumberField, number};
+use crate::fields::number;
 use crate::limits::OLDER_KINDS;
 use crate::words::kind_among;
+use operations::descriptions::WordUse;
 use operations::{KINDS, Record, sixth_use};
 
-// What the fields after `op` tell.
-#[derive(Clone, Copy)]
-pub enum RecordField {
-    Good(Record),
-    Bad,
-}
-
 // The name of an operation among the first `n`, and four numbers. The sixth word is 0.
-fn four_numbers(n: u32, name: &[u8], t: &[u8], a: &[u8], b: &[u8], p: &[u8]) -> RecordField
+fn four_numbers(n: u32, name: &[u8], t: &[u8], a: &[u8], b: &[u8], p: &[u8]) -> Option<Record>
     requires { n ≤ kind_count }
     ensures { let ks = take n kinds in
         let f = name.now in
@@ -33,42 +27,17 @@ fn four_numbers(n: u32, name: &[u8], t: &[u8], a: &[u8], b: &[u8], p: &[u8]) -> 
         record_model result ≡ reading (is_name f ks && all_of is_number (t' ∷ a' ∷ b' ∷ p' ∷ []))
         (number_named f ks ∷ number_of t' ∷ number_of a' ∷ number_of b' ∷ number_of p' ∷ 0 ∷ []) }
 {
-    let k = match kind_among(name, n) {
-        NumberField::Number(x) => x,
-        NumberField::Bad => {
-            return RecordField::Bad;
-        }
-    };
-    let x = match number(t) {
-        NumberField::Number(x) => x,
-        NumberField::Bad => {
-            return RecordField::Bad;
-        }
-    };
-    let y = match number(a) {
-        NumberField::Number(x) => x,
-        NumberField::Bad => {
-            return RecordField::Bad;
-        }
-    };
-    let z = match number(b) {
-        NumberField::Number(x) => x,
-        NumberField::Bad => {
-            return RecordField::Bad;
-        }
-    };
-    let w = match number(p) {
-        NumberField::Number(x) => x,
-        NumberField::Bad => {
-            return RecordField::Bad;
-        }
-    };
-    RecordField::Good(Record {
-        kind: k,
-        t: x,
-        a: y,
-        b: z,
-        p: w,
+    let kind = kind_among(name, n)?;
+    let t = number(t)?;
+    let a = number(a)?;
+    let b = number(b)?;
+    let p = number(p)?;
+    Some(Record {
+        kind,
+        t,
+        a,
+        b,
+        p,
         c: 0,
     })
 }
@@ -78,54 +47,27 @@ fn six_words(r: Record) -> Record
     requires { T (is_kind r.kind) }
     ensures { words_of result ≡ r.kind ∷ extended (is_row (kind_of r.kind).use_c) 0 (r.t ∷ r.a ∷ r.b ∷ r.p ∷ []) }
 {
-    if sixth_use(r.kind) == 1 {
-        return Record {
-            kind: r.kind,
-            t: r.t,
-            a: r.a,
-            b: r.b,
-            p: 0,
-            c: r.p,
-        };
-    }
-    Record {
-        kind: r.kind,
-        t: r.t,
-        a: r.a,
-        b: r.b,
-        p: r.p,
-        c: 0,
+    match sixth_use(r.kind) {
+        WordUse::Row => Record { p: 0, c: r.p, ..r },
+        WordUse::Nothing | WordUse::Number | WordUse::Cells => Record { c: 0, ..r },
     }
 }
 
 // The operation's name, t, a, b, p: of the older editions.
-pub fn older_record(name: &[u8], t: &[u8], a: &[u8], b: &[u8], p: &[u8]) -> RecordField
+pub fn older_record(name: &[u8], t: &[u8], a: &[u8], b: &[u8], p: &[u8]) -> Option<Record>
     ensures { let numbers = t.now ∷ a.now ∷ b.now ∷ p.now ∷ [] in
         record_model result ≡ record_told edition1 name.now numbers }
 {
-    match four_numbers(OLDER_KINDS, name, t, a, b, p) {
-        RecordField::Bad => RecordField::Bad,
-        RecordField::Good(r) => RecordField::Good(six_words(r)),
-    }
+    let r = four_numbers(OLDER_KINDS, name, t, a, b, p)?;
+    Some(six_words(r))
 }
 
 // The operation's name, t, a, b, p and the sixth word: of edition 3.
-pub fn third_record(name: &[u8], t: &[u8], a: &[u8], b: &[u8], p: &[u8], c: &[u8]) -> RecordField
+pub fn third_record(name: &[u8], t: &[u8], a: &[u8], b: &[u8], p: &[u8], c: &[u8]) -> Option<Record>
     ensures { let numbers = t.now ∷ a.now ∷ b.now ∷ p.now ∷ c.now ∷ [] in
         record_model result ≡ record_told edition3 name.now numbers }
 {
-    match four_numbers(KINDS, name, t, a, b, p) {
-        RecordField::Bad => RecordField::Bad,
-        RecordField::Good(r) => match number(c) {
-            NumberField::Bad => RecordField::Bad,
-            NumberField::Number(x) => RecordField::Good(Record {
-                kind: r.kind,
-                t: r.t,
-                a: r.a,
-                b: r.b,
-                p: r.p,
-                c: x,
-            }),
-        },
-    }
+    let r = four_numbers(KINDS, name, t, a, b, p)?;
+    let c = number(c)?;
+    Some(Record { c, ..r })
 }

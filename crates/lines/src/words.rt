@@ -4,40 +4,27 @@ ghost use Rattle.operations.specs.Kinds.{kinds, kind_count, is_kind, kind_of};
 ghost use Rattle.grammar.specs.Lists.{same};
 ghost use Rattle.grammar.specs.Line.{is_lock, lock_of, is_name, number_named};
 ghost use Rattle.letters.specs.Reads.{reading};
-ghost use Rattle.lines.specs.Model.{number_model};
 
-use crate::fields::NumberField;
 use operations::{name_byte, name_len};
 
 // Does a field hold the word `w`?
 pub fn is_word(f: &[u8], w: &[u8]) -> bool
     ensures { result ≡ same f.now w.now }
 {
-    let len = f.len();
-    if w.len() != len {
-        return false;
-    }
-    let mut i = 0;
-    while i < len {
-        if f[i] != w[i] {
-            return false;
-        }
-        i += 1;
-    }
-    true
+    f == w
 }
 
 // The lock that a field names.
-pub fn lock_of(f: &[u8]) -> NumberField
-    ensures { number_model result ≡ reading (is_lock f.now) (lock_of f.now) }
+pub fn lock_of(f: &[u8]) -> Option<u32>
+    ensures { result ≡ reading (is_lock f.now) (lock_of f.now) }
 {
     if is_word(f, b"locked") {
-        return NumberField::Number(1);
+        return Some(1);
     }
     if is_word(f, b"open") {
-        return NumberField::Number(0);
+        return Some(0);
     }
-    NumberField::Bad
+    None
 }
 
 // Does a field hold the name of kind `k`?
@@ -49,28 +36,24 @@ fn is_name(f: &[u8], k: usize) -> bool
     if name_len(k) != len {
         return false;
     }
-    let mut i = 0;
-    while i < len {
+    for i in 0..len {
         if f[i] != name_byte(k, i) {
             return false;
         }
-        i += 1;
     }
     true
 }
 
 // The kind among the first `n` that a field names.
-pub fn kind_among(f: &[u8], n: u32) -> NumberField
+pub fn kind_among(f: &[u8], n: u32) -> Option<u32>
     requires { n ≤ kind_count }
     ensures { let ks = take n kinds in
-        number_model result ≡ reading (is_name f.now ks) (number_named f.now ks) }
+        result ≡ reading (is_name f.now ks) (number_named f.now ks) }
 {
-    let mut k: u32 = 0;
-    while k < n {
+    for k in 0..n {
         if is_name(f, k as usize) {
-            return NumberField::Number(k);
+            return Some(k);
         }
-        k += 1;
     }
-    NumberField::Bad
+    None
 }

@@ -1,30 +1,24 @@
 // ite: the row that a known condition picks, the join of both rows where the condition is unknown.
 ghost use Rattle.std.specs.Prelude.{◌≡◌, ◌≤◌, [], ◌∷◌};
 ghost use Rattle.bits.specs.Limits.{width_limit};
-ghost use Rattle.vectors.specs.Row.{row};
+ghost use Rattle.vectors.specs.Row.{row_of};
 ghost use Rattle.operations.specs.Result.{result_of, Ready};
 ghost use Rattle.operations.specs.Arithmetic.{op_ite};
 
 use vectors::Vector;
 
-pub fn ite(w: u32, ma: u32, va: u32, mb: u32, vb: u32, mc: u32, vc: u32) -> Vector
-    requires { (w ≤ width_limit) × Ready op_ite w 0 (row w ma va ∷ row w mb vb ∷ row 1 mc vc ∷ []) }
-    ensures { row w result.mask result.value ≡ result_of op_ite w 0 (row w ma va ∷ row w mb vb ∷ row 1 mc vc ∷ []) }
+pub fn ite(w: u32, a: Vector, b: Vector, c: Vector) -> Vector
+    requires { (w ≤ width_limit) × Ready op_ite w 0 (row_of w a ∷ row_of w b ∷ row_of 1 c ∷ []) }
+    ensures { row_of w result ≡ result_of op_ite w 0 (row_of w a ∷ row_of w b ∷ row_of 1 c ∷ []) }
 {
-    if mc == 1 {
+    if c.mask == 1 {
         return Vector {
-            mask: ma | mb | (va ^ vb),
-            value: va & vb,
+            mask: a.mask | b.mask | (a.value ^ b.value),
+            value: a.value & b.value,
         };
     }
-    if vc == 1 {
-        return Vector {
-            mask: ma,
-            value: va,
-        };
+    if c.value == 1 {
+        return a;
     }
-    Vector {
-        mask: mb,
-        value: vb,
-    }
+    b
 }

@@ -2,7 +2,7 @@
 ghost use Rattle.std.specs.Prelude.{◌≡◌, ◌-◌, ◌^◌, ◌≤◌, not, ◌&&◌, [], ◌∷◌, bit_and, bit_xor};
 ghost use Rattle.bits.specs.Limits.{width_limit};
 ghost use Rattle.bits.specs.Bit.{digit};
-ghost use Rattle.vectors.specs.Row.{row};
+ghost use Rattle.vectors.specs.Row.{row_of};
 ghost use Rattle.operations.specs.Result.{result_of, Ready};
 ghost use Rattle.operations.specs.Arithmetic.{op_eq, op_ult, op_slt};
 
@@ -22,37 +22,37 @@ fn tested(fails: bool, holds: bool) -> Vector
 }
 
 // They may differ if a bit is unknown in one or differs, and may be equal if no bit known in both differs.
-pub fn eq(w: u32, ma: u32, va: u32, mb: u32, vb: u32) -> Vector
-    requires { (w ≤ width_limit) × Ready op_eq 1 0 (row w ma va ∷ row w mb vb ∷ []) }
-    ensures { row 1 result.mask result.value ≡ result_of op_eq 1 0 (row w ma va ∷ row w mb vb ∷ []) }
+pub fn eq(w: u32, a: Vector, b: Vector) -> Vector
+    requires { (w ≤ width_limit) × Ready op_eq 1 0 (row_of w a ∷ row_of w b ∷ []) }
+    ensures { row_of 1 result ≡ result_of op_eq 1 0 (row_of w a ∷ row_of w b ∷ []) }
 {
-    let unknown = ma | mb;
-    let different = va ^ vb;
+    let unknown = a.mask | b.mask;
+    let different = a.value ^ b.value;
     tested((unknown | different) != 0, (different & !unknown) == 0)
 }
 
 // It may fail if b's least is at most a's greatest, and may hold if a's least is below b's greatest.
-pub fn ult(w: u32, ma: u32, va: u32, mb: u32, vb: u32) -> Vector
-    requires { (w ≤ width_limit) × Ready op_ult 1 0 (row w ma va ∷ row w mb vb ∷ []) }
-    ensures { row 1 result.mask result.value ≡ result_of op_ult 1 0 (row w ma va ∷ row w mb vb ∷ []) }
+pub fn ult(w: u32, a: Vector, b: Vector) -> Vector
+    requires { (w ≤ width_limit) × Ready op_ult 1 0 (row_of w a ∷ row_of w b ∷ []) }
+    ensures { row_of 1 result ≡ result_of op_ult 1 0 (row_of w a ∷ row_of w b ∷ []) }
 {
-    tested(vb <= (va | ma), va < (vb | mb))
+    tested(b.value <= (a.value | a.mask), a.value < (b.value | b.mask))
 }
 
 // The value with its top bit flipped where it is known: numbers whose top bits are flipped are ordered as unsigned ones.
-fn flipped(w: u32, m: u32, v: u32) -> u32
+fn flipped(w: u32, x: Vector) -> u32
     requires { (1 ≤ w) × (w ≤ width_limit) }
-    ensures { result ≡ bit_xor v (bit_and (2 ^ (w - 1)) (2 ^ 32 - 1 - m)) }
+    ensures { result ≡ bit_xor x.value (bit_and (2 ^ (w - 1)) (2 ^ 32 - 1 - x.mask)) }
 {
-    v ^ ((1 << (w - 1)) & !m)
+    x.value ^ ((1 << (w - 1)) & !x.mask)
 }
 
-// As ult, by the least and greatest keys: la is a's least, la | ma its greatest.
-pub fn slt(w: u32, ma: u32, va: u32, mb: u32, vb: u32) -> Vector
-    requires { (w ≤ width_limit) × Ready op_slt 1 0 (row w ma va ∷ row w mb vb ∷ []) }
-    ensures { row 1 result.mask result.value ≡ result_of op_slt 1 0 (row w ma va ∷ row w mb vb ∷ []) }
+// As ult, by the least and greatest keys: la is a's least, la | a.mask its greatest.
+pub fn slt(w: u32, a: Vector, b: Vector) -> Vector
+    requires { (w ≤ width_limit) × Ready op_slt 1 0 (row_of w a ∷ row_of w b ∷ []) }
+    ensures { row_of 1 result ≡ result_of op_slt 1 0 (row_of w a ∷ row_of w b ∷ []) }
 {
-    let la = flipped(w, ma, va);
-    let lb = flipped(w, mb, vb);
-    tested(lb <= (la | ma), la < (lb | mb))
+    let la = flipped(w, a);
+    let lb = flipped(w, b);
+    tested(lb <= (la | a.mask), la < (lb | b.mask))
 }

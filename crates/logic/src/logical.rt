@@ -1,7 +1,7 @@
 // not, and, or, xor, bit by bit on the mask and value words (01, "Code places": masks, shifts and bitwise operations).
 ghost use Rattle.std.specs.Prelude.{◌≡◌, ◌≤◌, [], ◌∷◌};
 ghost use Rattle.bits.specs.Limits.{width_limit};
-ghost use Rattle.vectors.specs.Row.{row};
+ghost use Rattle.vectors.specs.Row.{row_of};
 ghost use Rattle.operations.specs.Result.{result_of, Ready};
 ghost use Rattle.operations.specs.Bitwise.{op_not, op_and, op_or, op_xor};
 
@@ -9,48 +9,48 @@ use bits::width_mask;
 use vectors::Vector;
 
 // A bit is 1 where the operand's is known as 0: neither 1 nor unknown.
-pub fn not(w: u32, ma: u32, va: u32) -> Vector
-    requires { (w ≤ width_limit) × Ready op_not w 0 (row w ma va ∷ []) }
-    ensures { row w result.mask result.value ≡ result_of op_not w 0 (row w ma va ∷ []) }
+pub fn not(w: u32, a: Vector) -> Vector
+    requires { (w ≤ width_limit) × Ready op_not w 0 (row_of w a ∷ []) }
+    ensures { row_of w result ≡ result_of op_not w 0 (row_of w a ∷ []) }
 {
     Vector {
-        mask: ma,
-        value: width_mask(w) ^ (va | ma),
+        mask: a.mask,
+        value: width_mask(w) ^ (a.value | a.mask),
     }
 }
 
 // Unknown where the greatest operands give 1 and the least ones 0.
-pub fn and(w: u32, ma: u32, va: u32, mb: u32, vb: u32) -> Vector
-    requires { (w ≤ width_limit) × Ready op_and w 0 (row w ma va ∷ row w mb vb ∷ []) }
-    ensures { row w result.mask result.value ≡ result_of op_and w 0 (row w ma va ∷ row w mb vb ∷ []) }
+pub fn and(w: u32, a: Vector, b: Vector) -> Vector
+    requires { (w ≤ width_limit) × Ready op_and w 0 (row_of w a ∷ row_of w b ∷ []) }
+    ensures { row_of w result ≡ result_of op_and w 0 (row_of w a ∷ row_of w b ∷ []) }
 {
-    let value = va & vb;
+    let value = a.value & b.value;
     Vector {
-        mask: ((va | ma) & (vb | mb)) ^ value,
+        mask: ((a.value | a.mask) & (b.value | b.mask)) ^ value,
         value: value,
     }
 }
 
 // Unknown where an operand's bit is, and neither is known as 1.
-pub fn or(w: u32, ma: u32, va: u32, mb: u32, vb: u32) -> Vector
-    requires { (w ≤ width_limit) × Ready op_or w 0 (row w ma va ∷ row w mb vb ∷ []) }
-    ensures { row w result.mask result.value ≡ result_of op_or w 0 (row w ma va ∷ row w mb vb ∷ []) }
+pub fn or(w: u32, a: Vector, b: Vector) -> Vector
+    requires { (w ≤ width_limit) × Ready op_or w 0 (row_of w a ∷ row_of w b ∷ []) }
+    ensures { row_of w result ≡ result_of op_or w 0 (row_of w a ∷ row_of w b ∷ []) }
 {
-    let value = va | vb;
+    let value = a.value | b.value;
     Vector {
-        mask: (value | (ma | mb)) ^ value,
+        mask: (value | (a.mask | b.mask)) ^ value,
         value: value,
     }
 }
 
 // Unknown where an operand's bit is.
-pub fn xor(w: u32, ma: u32, va: u32, mb: u32, vb: u32) -> Vector
-    requires { (w ≤ width_limit) × Ready op_xor w 0 (row w ma va ∷ row w mb vb ∷ []) }
-    ensures { row w result.mask result.value ≡ result_of op_xor w 0 (row w ma va ∷ row w mb vb ∷ []) }
+pub fn xor(w: u32, a: Vector, b: Vector) -> Vector
+    requires { (w ≤ width_limit) × Ready op_xor w 0 (row_of w a ∷ row_of w b ∷ []) }
+    ensures { row_of w result ≡ result_of op_xor w 0 (row_of w a ∷ row_of w b ∷ []) }
 {
-    let mask = ma | mb;
+    let mask = a.mask | b.mask;
     Vector {
         mask: mask,
-        value: (va ^ vb) & !mask,
+        value: (a.value ^ b.value) & !mask,
     }
 }

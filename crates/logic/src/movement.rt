@@ -2,7 +2,7 @@
 // A plane is either word: it moves as an operand's number does, by the kind's plain number.
 ghost use Rattle.std.specs.Prelude.{◌≡◌, ℕ, ◌^◌, ◌<◌, ◌≤◌, Bool, [], ◌∷◌};
 ghost use Rattle.bits.specs.Limits.{width_limit};
-ghost use Rattle.vectors.specs.Row.{row};
+ghost use Rattle.vectors.specs.Row.{row_of};
 ghost use Rattle.operations.specs.Encoding.{sign_place};
 ghost use Rattle.operations.specs.Wide.{counted_as};
 ghost use Rattle.operations.specs.Result.{result_of, Ready};
@@ -12,14 +12,11 @@ ghost use Rattle.operations.specs.Moves.{op_shl, op_lshr, op_ashr, op_rotl, op_e
 use bits::width_mask;
 use vectors::Vector;
 
-pub fn copy(w: u32, ma: u32, va: u32) -> Vector
-    requires { (w ≤ width_limit) × Ready op_copy w 0 (row w ma va ∷ []) }
-    ensures { row w result.mask result.value ≡ result_of op_copy w 0 (row w ma va ∷ []) }
+pub fn copy(w: u32, a: Vector) -> Vector
+    requires { (w ≤ width_limit) × Ready op_copy w 0 (row_of w a ∷ []) }
+    ensures { row_of w result ≡ result_of op_copy w 0 (row_of w a ∷ []) }
 {
-    Vector {
-        mask: ma,
-        value: va,
-    }
+    a
 }
 
 fn shl_plane(w: u32, x: u32, p: u32) -> u32
@@ -29,23 +26,23 @@ fn shl_plane(w: u32, x: u32, p: u32) -> u32
     (x << p) & width_mask(w)
 }
 
-pub fn shl(w: u32, ma: u32, va: u32, p: u32) -> Vector
-    requires { (w ≤ width_limit) × Ready op_shl w p (row w ma va ∷ []) }
-    ensures { row w result.mask result.value ≡ result_of op_shl w p (row w ma va ∷ []) }
+pub fn shl(w: u32, a: Vector, p: u32) -> Vector
+    requires { (w ≤ width_limit) × Ready op_shl w p (row_of w a ∷ []) }
+    ensures { row_of w result ≡ result_of op_shl w p (row_of w a ∷ []) }
 {
     Vector {
-        mask: shl_plane(w, ma, p),
-        value: shl_plane(w, va, p),
+        mask: shl_plane(w, a.mask, p),
+        value: shl_plane(w, a.value, p),
     }
 }
 
-pub fn lshr(w: u32, ma: u32, va: u32, p: u32) -> Vector
-    requires { (w ≤ width_limit) × Ready op_lshr w p (row w ma va ∷ []) }
-    ensures { row w result.mask result.value ≡ result_of op_lshr w p (row w ma va ∷ []) }
+pub fn lshr(w: u32, a: Vector, p: u32) -> Vector
+    requires { (w ≤ width_limit) × Ready op_lshr w p (row_of w a ∷ []) }
+    ensures { row_of w result ≡ result_of op_lshr w p (row_of w a ∷ []) }
 {
     Vector {
-        mask: ma >> p,
-        value: va >> p,
+        mask: a.mask >> p,
+        value: a.value >> p,
     }
 }
 
@@ -77,13 +74,13 @@ fn ashr_plane(w: u32, x: u32, p: u32) -> u32
     sext_plane(w, 1, x >> (w - 1))
 }
 
-pub fn ashr(w: u32, ma: u32, va: u32, p: u32) -> Vector
-    requires { (w ≤ width_limit) × Ready op_ashr w p (row w ma va ∷ []) }
-    ensures { row w result.mask result.value ≡ result_of op_ashr w p (row w ma va ∷ []) }
+pub fn ashr(w: u32, a: Vector, p: u32) -> Vector
+    requires { (w ≤ width_limit) × Ready op_ashr w p (row_of w a ∷ []) }
+    ensures { row_of w result ≡ result_of op_ashr w p (row_of w a ∷ []) }
 {
     Vector {
-        mask: ashr_plane(w, ma, p),
-        value: ashr_plane(w, va, p),
+        mask: ashr_plane(w, a.mask, p),
+        value: ashr_plane(w, a.value, p),
     }
 }
 
@@ -96,13 +93,13 @@ fn rotl_plane(w: u32, x: u32, p: u32) -> u32
     ((x << q) | (x >> (w - 1 - q) >> 1)) & width_mask(w)
 }
 
-pub fn rotl(w: u32, ma: u32, va: u32, p: u32) -> Vector
-    requires { (w ≤ width_limit) × Ready op_rotl w p (row w ma va ∷ []) }
-    ensures { row w result.mask result.value ≡ result_of op_rotl w p (row w ma va ∷ []) }
+pub fn rotl(w: u32, a: Vector, p: u32) -> Vector
+    requires { (w ≤ width_limit) × Ready op_rotl w p (row_of w a ∷ []) }
+    ensures { row_of w result ≡ result_of op_rotl w p (row_of w a ∷ []) }
 {
     Vector {
-        mask: rotl_plane(w, ma, p),
-        value: rotl_plane(w, va, p),
+        mask: rotl_plane(w, a.mask, p),
+        value: rotl_plane(w, a.value, p),
     }
 }
 
@@ -113,43 +110,40 @@ fn extract_plane(wt: u32, wa: u32, x: u32, p: u32) -> u32
     (x >> p) & width_mask(wt)
 }
 
-pub fn extract(wt: u32, wa: u32, ma: u32, va: u32, p: u32) -> Vector
-    requires { (wa ≤ width_limit) × Ready op_extract wt p (row wa ma va ∷ []) }
-    ensures { row wt result.mask result.value ≡ result_of op_extract wt p (row wa ma va ∷ []) }
+pub fn extract(wt: u32, wa: u32, a: Vector, p: u32) -> Vector
+    requires { (wa ≤ width_limit) × Ready op_extract wt p (row_of wa a ∷ []) }
+    ensures { row_of wt result ≡ result_of op_extract wt p (row_of wa a ∷ []) }
 {
     Vector {
-        mask: extract_plane(wt, wa, ma, p),
-        value: extract_plane(wt, wa, va, p),
+        mask: extract_plane(wt, wa, a.mask, p),
+        value: extract_plane(wt, wa, a.value, p),
     }
 }
 
 // a is the high part, b the low one.
-pub fn concat(wt: u32, wa: u32, wb: u32, ma: u32, va: u32, mb: u32, vb: u32) -> Vector
-    requires { (wt ≤ width_limit) × Ready op_concat wt 0 (row wa ma va ∷ row wb mb vb ∷ []) }
-    ensures { row wt result.mask result.value ≡ result_of op_concat wt 0 (row wa ma va ∷ row wb mb vb ∷ []) }
+pub fn concat(wt: u32, wa: u32, wb: u32, a: Vector, b: Vector) -> Vector
+    requires { (wt ≤ width_limit) × Ready op_concat wt 0 (row_of wa a ∷ row_of wb b ∷ []) }
+    ensures { row_of wt result ≡ result_of op_concat wt 0 (row_of wa a ∷ row_of wb b ∷ []) }
 {
     Vector {
-        mask: (ma << wb) | mb,
-        value: (va << wb) | vb,
+        mask: (a.mask << wb) | b.mask,
+        value: (a.value << wb) | b.value,
     }
 }
 
-pub fn zext(wt: u32, wa: u32, ma: u32, va: u32) -> Vector
-    requires { (wt ≤ width_limit) × Ready op_zext wt 0 (row wa ma va ∷ []) }
-    ensures { row wt result.mask result.value ≡ result_of op_zext wt 0 (row wa ma va ∷ []) }
+pub fn zext(wt: u32, wa: u32, a: Vector) -> Vector
+    requires { (wt ≤ width_limit) × Ready op_zext wt 0 (row_of wa a ∷ []) }
+    ensures { row_of wt result ≡ result_of op_zext wt 0 (row_of wa a ∷ []) }
 {
-    Vector {
-        mask: ma,
-        value: va,
-    }
+    a
 }
 
-pub fn sext(wt: u32, wa: u32, ma: u32, va: u32) -> Vector
-    requires { (wt ≤ width_limit) × Ready op_sext wt 0 (row wa ma va ∷ []) }
-    ensures { row wt result.mask result.value ≡ result_of op_sext wt 0 (row wa ma va ∷ []) }
+pub fn sext(wt: u32, wa: u32, a: Vector) -> Vector
+    requires { (wt ≤ width_limit) × Ready op_sext wt 0 (row_of wa a ∷ []) }
+    ensures { row_of wt result ≡ result_of op_sext wt 0 (row_of wa a ∷ []) }
 {
     Vector {
-        mask: sext_plane(wt, wa, ma),
-        value: sext_plane(wt, wa, va),
+        mask: sext_plane(wt, wa, a.mask),
+        value: sext_plane(wt, wa, a.value),
     }
 }

@@ -47,25 +47,25 @@ module _ (w wa ma va : ℕ) (masks values : List ℕ) (R : LoadReady w (row wa m
       zeros [] c = absurd c
       zeros (x ∷ ms) c = let l = value-least a x R.address c.0 in let e = count in chosen-past cells ms c.1 x (omega arith)
 
-  -- ---- the loop, under the code's names: x the least address, u its unknown bits, t the greatest address
+  -- ---- the loop
 
-  module _ (x u t end : ℕ) (ex : x ≡ va) (eu : u ≡ ma) (et : t ≡ bit_or va ma) (ee : end ≡ min (length masks) (suc t)) (h : x < length masks) where
+  module _ (end : ℕ) (ee : end ≡ min (length masks) (suc (bit_or va ma))) (h : va < length masks) where
     abbrev Loading : ℕ → ℕ → ℕ → Type 0
-    Loading m v i = (x < i) × (i ≤ end) × (row w m v ≡ join_named w a cells (i - suc va))
+    Loading m v i = (va < i) × (i ≤ end) × (row w m v ≡ join_named w a cells (i - suc va))
 
     -- the cell of the least address
-    pub load-start : Loading (get_or masks x 0) (get_or values x 0) (x + 1)
+    pub load-start : Loading (get_or masks va 0) (get_or values va 0) (va + 1)
     unfolding join_named
     load-start =
-        let z : 0 ≡ x + 1 - suc va = omega arith in
+        let z : 0 ≡ va + 1 - suc va = omega arith in
         let l = top-greatest a va R.address (covers-value a R.address) in (
           omega arith,
           omega arith,
-          cell-is x h ∙ ap (λ (k : ℕ). get_or cells k (zero_row w)) ex ∙ ap (join_named w a cells) z,
+          cell-is va h ∙ ap (join_named w a cells) z,
         )
 
     -- one cell more
-    pub load-turn : (i m v m' v' : ℕ) → i < end → Loading m v i → row w m' v' ≡ join_if (eqb (bit_or i u) t) (row w m v) (row w (get_or masks i 0) (get_or values i 0)) → Loading m' v' (i + 1)
+    pub load-turn : (i m v m' v' : ℕ) → i < end → Loading m v i → row w m' v' ≡ join_if (eqb (bit_or i ma) (bit_or va ma)) (row w m v) (row w (get_or masks i 0) (get_or values i 0)) → Loading m' v' (i + 1)
     unfolding join_named names
     load-turn i m v m' v' l L f =
         let b = L.0 in
@@ -73,17 +73,17 @@ module _ (w wa ma va : ℕ) (masks values : List ℕ) (R : LoadReady w (row wa m
         let z : suc (i - suc va) ≡ i + 1 - suc va = omega arith in (
           omega arith,
           omega arith,
-          f ∙ (λ ι. join_if (eqb (bit_or i (eu ι)) (et ι)) (L.2 ι) (cell-is i (omega arith) ι))
+          f ∙ (λ ι. join_if (eqb (bit_or i ma) (bit_or va ma)) (L.2 ι) (cell-is i (omega arith) ι))
               ∙ ap (λ (k : ℕ). join_if (names a k) (join_named w a cells (i - suc va)) (get_or cells k (zero_row w))) j
               ∙ ap (join_named w a cells) z,
         )
 
     -- all cells that the address may name, and 0 where it may be past them
-    pub load-end : (i m v m' v' : ℕ) → end ≤ i → Loading m v i → row w m' v' ≡ join_if (leb (length masks) t) (row w m v) (row w 0 0) → row w m' v' ≡ best w load_number (a ∷ cells)
+    pub load-end : (i m v m' v' : ℕ) → end ≤ i → Loading m v i → row w m' v' ≡ join_if (leb (length masks) (bit_or va ma)) (row w m v) (row w 0 0) → row w m' v' ≡ best w load_number (a ∷ cells)
     unfolding load_row
     load-end i m v m' v' l L f =
         let b = L.1 in
         let k : i ≡ min (length masks) (suc (bit_or va ma)) = omega arith in
-        f ∙ (λ ι. join_if (leb (length masks) (et ι)) ((L.2 ∙ ap (λ (k : ℕ). join_named w a cells (k - suc va)) k) ι) (zero_row w))
+        f ∙ (λ ι. join_if (leb (length masks) (bit_or va ma)) ((L.2 ∙ ap (λ (k : ℕ). join_named w a cells (k - suc va)) k) ι) (zero_row w))
         ∙ ap (λ (n : ℕ). join_if (leb n (bit_or va ma)) (join_named w a cells (min n (suc (bit_or va ma)) - suc va)) (zero_row w)) (sym count)
         ∙ load-best w a R.address cells cells_are

@@ -31,13 +31,13 @@ pub fn drawn_design(number: u64) -> Design {
     let rows = after(rows, last);
     let width = rows.width;
     Design {
-        number: number,
-        starts: starts,
-        width: width,
-        first: first,
-        second: second,
-        third: third,
-        last: last,
+        number,
+        starts,
+        width,
+        first,
+        second,
+        third,
+        last,
     }
 }
 

@@ -10,7 +10,7 @@ use oracle::shapes::{LOAD, STORE};
 
 // Cell i of a record's span, as a row.
 fn cell_row(r: Record, i: u64) -> u64 {
-    std::num::wrapping_add_u64(r.c, i)
+    r.c.wrapping_add(i)
 }
 
 // The number that the last record gives its target, or cell i of its span where it is a store.

@@ -9,7 +9,7 @@ use oracle::choices::{Row, covers, row_of};
 use oracle::numbers::power;
 use rows::{at, singleton, width_of};
 use runs::{Reached, all_runs};
-use tables::RunAnswer;
+use tables::run;
 
 mod designs; // designs.rt: a table of ten rows and four records
 pub mod draws; // draws.rt: the numbers drawn
@@ -21,14 +21,6 @@ mod rows; // rows.rt: the rows while records are drawn
 mod runs; // runs.rt: all plain runs
 mod starts; // starts.rt: the start rows
 pub mod sweeps; // sweeps.rt: the tables tried
-
-// Whether run answers 4: all of four records.
-fn is_done(answer: RunAnswer) -> bool {
-    match answer {
-        RunAnswer::Done(last) => last == 4,
-        RunAnswer::Refused(_) => false,
-    }
-}
 
 // The row of these masks and values.
 fn row_at(mask: &[u32; 10], value: &[u32; 10], i: u64) -> Row {
@@ -45,12 +37,10 @@ fn covered(w: u64, row: Row) -> u64
 {
     let end = power(w);
     let mut set: u64 = 0;
-    let mut x: u64 = 0;
-    while x < 64 {
+    for x in 0..64 {
         if x < end && covers(w, row, x) {
             set |= singleton(x);
         }
-        x += 1;
     }
     set
 }
@@ -61,21 +51,14 @@ fn is_precise(d: Design, i: u64, row: Row, numbers: u64) -> bool {
     covered(width_of(width, i), row) == numbers
 }
 
-// Whether a row's bits are known exactly where all runs agree, and are then what the runs give.
-fn is_best(best: Row, row: Row) -> bool {
-    row.mask == best.mask && row.value == best.value
-}
-
-// Whether these rows are what the plain runs reach.
+// Whether these rows are what the plain runs reach: rows 6 to 8 precisely, and the last target's bits are known exactly where all runs agree, and are then what
+// the runs give.
 fn match_runs(d: Design, r: Reached, mask: &[u32; 10], value: &[u32; 10]) -> bool {
     is_precise(d, 6, row_at(mask, value, 6), r.first)
         && is_precise(d, 7, row_at(mask, value, 7), r.second)
         && is_precise(d, 8, row_at(mask, value, 8), r.third)
-        && is_best(row_of(r.last), row_at(mask, value, last_row(d, 0)))
-        && is_best(
-            row_of(r.last_cell),
-            row_at(mask, value, last_row(d, last_cell(d))),
-        )
+        && row_at(mask, value, last_row(d, 0)) == row_of(r.last)
+        && row_at(mask, value, last_row(d, last_cell(d))) == row_of(r.last_cell)
 }
 
 // Whether run and the plain runs agree on the table of this number.
@@ -86,6 +69,6 @@ fn agrees(number: u64) -> bool {
     let mut mask = masks(d);
     let mut value = values(d);
     let words = words(d);
-    let answer = tables::run(&width, &lock, &mut mask, &mut value, &words, 0, 4);
-    is_done(answer) && match_runs(d, all_runs(d), &mask, &value)
+    let answer = run(&width, &lock, &mut mask, &mut value, &words, 0, 4);
+    answer == Ok(4) && match_runs(d, all_runs(d), &mask, &value)
 }

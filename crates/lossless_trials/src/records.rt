@@ -25,36 +25,29 @@ pub struct Record {
     pub wt: u64,
 }
 
-// Different rows for a record to read.
+// Different rows for a record to read, the last two where they are there.
 #[derive(Clone, Copy)]
 struct Operands {
     a: u64,
-    b: u64,
-    condition: u64,
+    b: Option<u64>,
+    condition: Option<u64>,
 }
 
 // Rows to read: any, one of a width that suits the kind, and one of width 1. The first is always there, since at least three rows are unread.
 fn drawn_operands(table: u64, k: u64, rows: Rows, kind: u64) -> Operands {
     let width = rows.width;
-    let a = unread_row(rows, drawn(table, k, 1, ROWS), 0);
+    let a = unread_row(rows, drawn(table, k, 1, ROWS), 0).unwrap_or(0);
     let wb = second_width(kind, width_of(width, a));
     let rest = once_read(rows, singleton(a));
     let b = unread_row(rest, drawn(table, k, 2, ROWS), wb);
-    let rest = once_read(rest, singleton(b));
+    let rest = once_read(rest, b.map_or(0, singleton));
     let condition = unread_row(rest, drawn(table, k, 3, ROWS), 1);
-    Operands {
-        a: a,
-        b: b,
-        condition: condition,
-    }
+    Operands { a, b, condition }
 }
 
 // The kind, or `not` where a row is missing.
 fn fitting_kind(kind: u64, o: Operands) -> u64 {
-    if uses_second(kind) && o.b == ROWS {
-        return NOT;
-    }
-    if uses_condition(kind) && o.condition == ROWS {
+    if uses_second(kind) && o.b == None || uses_condition(kind) && o.condition == None {
         return NOT;
     }
     kind
@@ -75,18 +68,23 @@ fn record_of(table: u64, k: u64, rows: Rows, kind: u64, o: Operands) -> Record
     requires { k < 4 }
 {
     let width = rows.width;
+    let b = o.b.unwrap_or(0);
     let wa = width_of(width, o.a);
-    let wb = width_of(width, o.b);
+    let wb = width_of(width, b);
     let p = parameter(kind, drawn(table, k, 4, 4096), wa);
     let wt = target_width(kind, drawn(table, k, 5, 4096), wa, wb, p);
     Record {
-        kind: kind,
+        kind,
         t: drawn_target(table, k, wt, width_of(width, 0)),
         a: o.a,
-        b: if uses_second(kind) { o.b } else { 0 },
-        p: p,
-        c: if uses_condition(kind) { o.condition } else { 0 },
-        wt: wt,
+        b: if uses_second(kind) { b } else { 0 },
+        p,
+        c: if uses_condition(kind) {
+            o.condition.unwrap_or(0)
+        } else {
+            0
+        },
+        wt,
     }
 }
 
@@ -97,7 +95,7 @@ pub fn drawn_record(table: u64, k: u64, rows: Rows) -> Record
     let kind = drawn_kind(table, k);
     let o = drawn_operands(table, k, rows, kind);
     if kind >= LOAD {
-        return drawn_memory(table, rows, kind, record_of(table, k, rows, NOT, o));
+        return drawn_memory(table, rows, kind).unwrap_or(record_of(table, k, rows, NOT, o));
     }
     let r = record_of(table, k, rows, fitting_kind(kind, o), o);
     if k < 3 && r.wt > MOST {

@@ -4,7 +4,7 @@ ghost use Rattle.std.specs.Prelude.{◌<◌, ◌≤◌};
 use crate::starts::{Starts, pair};
 use oracle::numbers::{bit, byte};
 
-// How many rows there are; as the number of a row, none.
+// How many rows there are.
 pub const ROWS: u64 = 10;
 
 // The widths of the rows, and the set of rows that a record may read: each is a start row or written, and nothing has read it.
@@ -71,7 +71,7 @@ pub fn singleton(x: u64) -> u64 {
 pub fn once_read(rows: Rows, set: u64) -> Rows {
     let width = rows.width;
     Rows {
-        width: width,
+        width,
         unread: (rows.unread | set) ^ set,
     }
 }
@@ -82,7 +82,7 @@ pub fn once_written(rows: Rows, row: u64, w: u64) -> Rows {
     let i = at(row);
     width[i] = byte(w);
     Rows {
-        width: width,
+        width,
         unread: rows.unread | singleton(row),
     }
 }
@@ -95,17 +95,11 @@ pub fn suits(rows: Rows, row: u64, w: u64) -> bool
     bit(rows.unread, row) == 1 && (w == 0 || width_of(width, row) == w)
 }
 
-// The first such row at or after a place, then from row 0 on; or none.
-pub fn unread_row(rows: Rows, place: u64, w: u64) -> u64
+// The first such row at or after a place, then from row 0 on.
+pub fn unread_row(rows: Rows, place: u64, w: u64) -> Option<u64>
     requires { place < 10 }
 {
-    let mut k: u64 = 0;
-    while k < ROWS {
-        let row = (place + k) % ROWS;
-        if suits(rows, row, w) {
-            return row;
-        }
-        k += 1;
-    }
-    ROWS
+    (0..ROWS)
+        .map(|k| (place + k) % ROWS)
+        .find(|row| suits(rows, *row, w))
 }

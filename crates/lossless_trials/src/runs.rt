@@ -1,6 +1,5 @@
 // All plain runs of a table, and what they reach.
 ghost use Rattle.std.specs.Prelude.{◌^◌, ◌<◌, ◌≤◌};
-ghost use Rattle.oracle.specs.Sizes.{Sized};
 
 use crate::designs::{Design, numbers};
 use crate::draws::remainder;
@@ -25,9 +24,7 @@ pub struct Reached {
 }
 
 // A record's kind, widths and parameter.
-fn shape(width: [u8; 10], r: Record) -> Shape
-    ensures { Sized result.wt result.wa result.wb result.p }
-{
+fn shape(width: [u8; 10], r: Record) -> Shape {
     Shape {
         kind: r.kind,
         wt: width_of(width, r.t),
@@ -71,18 +68,17 @@ fn step(d: Design, r: Record, numbers: [u64; 10]) -> [u64; 10] {
 
 // What the runs before reach, and the run from this start.
 fn with_run(d: Design, before: Reached, start: u64) -> Reached {
-    let first = d.first;
-    let second = d.second;
-    let third = d.third;
-    let end = step(d, third, step(d, second, step(d, first, numbers(d, start))));
-    let seen = before.last;
-    let seen_cell = before.last_cell;
+    let end = step(
+        d,
+        d.third,
+        step(d, d.second, step(d, d.first, numbers(d, start))),
+    );
     Reached {
         first: before.first | singleton(end[6]),
         second: before.second | singleton(end[7]),
         third: before.third | singleton(end[8]),
-        last: both(seen, last_bits(d, end, 0)),
-        last_cell: both(seen_cell, last_bits(d, end, last_cell(d))),
+        last: both(before.last, last_bits(d, end, 0)),
+        last_cell: both(before.last_cell, last_bits(d, end, last_cell(d))),
     }
 }
 
@@ -95,12 +91,10 @@ pub fn all_runs(d: Design) -> Reached {
         last: nothing(),
         last_cell: nothing(),
     };
-    let mut start: u64 = 0;
-    while start < 4096 {
+    for start in 0..4096 {
         if is_covered(d.starts, start) {
             all = with_run(d, all, start);
         }
-        start += 1;
     }
     all
 }

@@ -18,8 +18,8 @@ pub fn drawn_starts(table: u64) -> Starts {
     let mask = drawn(table, 4, 1, 4096) & used;
     let value = drawn(table, 4, 2, 4096) & used;
     Starts {
-        used: used,
-        mask: mask,
+        used,
+        mask,
         value: (value | mask) ^ mask,
     }
 }

@@ -53,20 +53,20 @@ module _ (widths : List ℕ) (s : State) (S : StateFits widths s) (t a base n : 
       (ap (listed cell 0) e
       ∙ sym (listed-map (row_at widths s) (λ i. i) base n ∙ sym (listed-from (row_at widths s) base n) ∙ listed-ext (λ i. row_at widths s (base + i)) cell 0 n (λ i l u. row_is i (omega arith))))
 
-  -- ---- the same under the code's names for these numbers
+  -- ---- the same with the code's number of cells
 
-  module _ (w wa k : ℕ) (ew : w ≡ width_at widths t) (ea : wa ≡ width_at widths a) (ek : k ≡ n) where
+  module _ (k : ℕ) (ek : k ≡ n) where
     abbrev cut : List ℕ → List ℕ
     cut l = take k (drop base l)
 
-    pub code-ready : LoadReady w (row wa (get_or s.masks a 0) (get_or s.values a 0)) (cut s.masks) (cut s.values)
-    code-ready = rw (ew, ea, ek) part-ready
+    pub code-ready : LoadReady (width_at widths t) (row_at widths s a) (cut s.masks) (cut s.values)
+    code-ready = rw ek part-ready
 
-    pub code_step : (m v : ℕ) → row w m v ≡ best w load_number (row wa (get_or s.masks a 0) (get_or s.values a 0) ∷ cell_rows w (cut s.masks) (cut s.values))
+    pub code_step : (m v : ℕ) → row (width_at widths t) m v ≡ best (width_at widths t) load_number (row_at widths s a ∷ cell_rows (width_at widths t) (cut s.masks) (cut s.values))
         → ◌≡◌ {A = State} (record { masks = set s.masks t m; values = set s.values t v }) (step widths (load_effect t a base n ∷ []) s)
     unfolding step
     code_step m v e =
-        let r = (λ ι. row (sym ew ι) m v) ∙ e
-        ∙ (λ ι. best (ew ι) load_number (row (ea ι) (get_or s.masks a 0) (get_or s.values a 0) ∷ cell_rows (ew ι) (take (ek ι) (drop base s.masks)) (take (ek ι) (drop base s.values))))
+        let r = e
+        ∙ (λ ι. best (width_at widths t) load_number (row_at widths s a ∷ cell_rows (width_at widths t) (take (ek ι) (drop base s.masks)) (take (ek ι) (drop base s.values))))
         ∙ part-result in
         λ ι. record { masks = set s.masks t (r ι).mask; values = set s.values t (r ι).value }

@@ -1,7 +1,7 @@
 -- A store as the code makes it, cell after cell, from the cell of the least address to that of the greatest. Assumes nothing.
 --   rest i s       the rows s once cells i, i + 1, .. have been put as the store leaves them
 --   Storing i s    the store's loop stands before cell i with the rows s
-use mathlib.Core.Path.{◌≡◌, refl, sym, ap, ◌∙◌, subst}
+use mathlib.Core.Path.{◌≡◌, refl, sym, ap, ◌∙◌}
 use mathlib.Core.Logic.{◌≢◌}
 use mathlib.Core.Bool.{not, cond}
 use mathlib.Core.List.{List}
@@ -131,24 +131,23 @@ module _ (widths : List ℕ) (s₀ : State) (a d base n : ℕ) where
 
     -- ---- one known address below n
 
-    pub store-one : (x : ℕ) → x ≡ address.value → address.mask ≡ 0 → x < n → put s₀ (base + x) given ≡ step widths (store_effects a d base n) s₀
-    store-one x ex e h =
+    pub store-one : address.mask ≡ 0 → address.value < n → put s₀ (base + address.value) given ≡ step widths (store_effects a d base n) s₀
+    store-one e h =
+        let x = address.value in
         sym (rest_below x (omega arith) (omega arith)
         ∙ rest-next x h s₀
-        ∙ ap (λ (r : Row). rest (x + 1) (put s₀ (base + x) r)) (store-known x address given (cell x) formed (subst (Covers address) (sym ex) (covers-value address formed)) e)
+        ∙ ap (λ (r : Row). rest (x + 1) (put s₀ (base + x) r)) (store-known x address given (cell x) formed (covers-value address formed) e)
         ∙ rest-above (x + 1) (omega arith) (put s₀ (base + x) given) (kept_put x s₀ given (λ j g. refl)) (λ k l u c. let y = known-covers address k formed e c in omega arith))
 
     -- ---- the loop of a doubtful address
 
-    -- under the code's names: x the least address, u its unknown bits, t the greatest address
-
-    module _ (x u t end : ℕ) (ex : x ≡ address.value) (eu : u ≡ address.mask) (et : t ≡ greatest address) (ee : end ≡ min n (suc t)) (h : x < n) (doubtful : address.mask ≢ 0) where
-      pub storing-start : (x ≤ end) × Storing x s₀
+    module _ (end : ℕ) (ee : end ≡ min n (suc (greatest address))) (h : address.value < n) (doubtful : address.mask ≢ 0) where
+      pub storing-start : (address.value ≤ end) × Storing address.value s₀
       storing-start =
           let l = top-greatest address address.value formed (covers-value address formed) in
-          (omega arith, record { masks_length = refl; values_length = refl; kept = λ j g. refl; whole = rest_below x (omega arith) (omega arith) })
+          (omega arith, record { masks_length = refl; values_length = refl; kept = λ j g. refl; whole = rest_below address.value (omega arith) (omega arith) })
 
-      pub storing-turn : (i : ℕ) → i < end → (s : State) → Storing i s → (m v : ℕ) → ((w : ℕ) → row w m v ≡ join_if (eqb (bit_or i u) t) (row w (get_or s.masks (base + i) 0) (get_or s.values (base + i) 0)) (row w given.mask given.value))
+      pub storing-turn : (i : ℕ) → i < end → (s : State) → Storing i s → (m v : ℕ) → ((w : ℕ) → row w m v ≡ join_if (eqb (bit_or i address.mask) (greatest address)) (row w (get_or s.masks (base + i) 0) (get_or s.values (base + i) 0)) (row w given.mask given.value))
           → Storing (i + 1) (record { masks = set s.masks (base + i) m; values = set s.values (base + i) v })
       unfolding names
       storing-turn i l s G m v e =
@@ -165,7 +164,7 @@ module _ (widths : List ℕ) (s₀ : State) (a d base n : ℕ) where
           is : row w m v ≡ store_row i address given (cell i)
           is =
               e w
-              ∙ (λ ι. join_if (eqb (bit_or i (eu ι)) (et ι)) (G.kept i (omega arith) ι) (row (F.cell_width i (omega arith) ι) given.mask given.value))
+              ∙ (λ ι. join_if (eqb (bit_or i address.mask) (greatest address)) (G.kept i (omega arith) ι) (row (F.cell_width i (omega arith) ι) given.mask given.value))
               ∙ sym (store-doubtful i address given (cell i) (not_T (eqb address.mask 0) (λ z. doubtful (eqb→eq address.mask 0 z))))
 
       pub storing-end : (i : ℕ) → end ≤ i → i ≤ end → (s : State) → Storing i s → s ≡ step widths (store_effects a d base n) s₀

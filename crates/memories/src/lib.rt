@@ -6,8 +6,8 @@ ghost use Rattle.steps.specs.Step as Step;
 ghost use Rattle.steps.specs.States.{StateFits, held};
 ghost use Rattle.memories.specs.Effects.{load_effect, store_effects, SpanFits};
 
-use bits::{index, wide};
 use lookups::{join_if, load, named_end};
+use vectors::Vector;
 
 // A load of row t from the n rows from the base on, by the address in row a: all is read, then the target's mask and value are written.
 pub fn load_to(
@@ -23,13 +23,16 @@ pub fn load_to(
     ensures { held mask.new value.new ≡ Step.step width.now (load_effect t a base n ∷ []) (held mask.old value.old) }
 {
     let end = base + n;
+    let address = Vector {
+        mask: mask[a],
+        value: value[a],
+    };
     let r = load(
-        wide(width[t]),
-        wide(width[a]),
+        width[t] as u32,
+        width[a] as u32,
         &mask[base..end],
         &value[base..end],
-        mask[a],
-        value[a],
+        address,
     );
     mask[t] = r.mask;
     value[t] = r.value;
@@ -49,33 +52,33 @@ pub fn store(
     requires { StateFits width.now (held mask.old value.old) × SpanFits width.now a d base n }
     ensures { held mask.new value.new ≡ Step.step width.now (store_effects a d base n) (held mask.old value.old) }
 {
-    let ma = mask[a];
-    let va = value[a];
-    let md = mask[d];
-    let vd = value[d];
-    let x = index(va);
+    let address = Vector {
+        mask: mask[a],
+        value: value[a],
+    };
+    let data = Vector {
+        mask: mask[d],
+        value: value[d],
+    };
+    let x = address.value as usize;
     if n <= x {
         return;
     }
-    if ma == 0 {
-        mask[base + x] = md;
-        value[base + x] = vd;
+    if address.mask == 0 {
+        mask[base + x] = data.mask;
+        value[base + x] = data.value;
         return;
     }
-    let unknown = index(ma);
-    let top = index(va | ma);
+    let unknown = address.mask as usize;
+    let top = (address.value | address.mask) as usize;
     let end = named_end(n, top);
-    let mut i = x;
-    while i < end {
-        let r = join_if(
-            (i | unknown) == top,
-            mask[base + i],
-            value[base + i],
-            md,
-            vd,
-        );
+    for i in x..end {
+        let cell = Vector {
+            mask: mask[base + i],
+            value: value[base + i],
+        };
+        let r = join_if((i | unknown) == top, cell, data);
         mask[base + i] = r.mask;
         value[base + i] = r.value;
-        i += 1;
     }
 }

@@ -83,9 +83,9 @@ fn code(l: Layout, m: u64, i: u64) -> u64 {
         return m / vectors_of(l.w, l.n) / addresses(l);
     }
     if i == 0 {
-        return std::num::wrapping_add_u64(m, 1);
+        return m.wrapping_add(1);
     }
-    m / vectors_of(l.w, std::num::wrapping_sub_u64(i, BASE))
+    m / vectors_of(l.w, i.wrapping_sub(BASE))
 }
 
 // Row i in table m.

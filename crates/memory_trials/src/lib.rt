@@ -9,7 +9,7 @@ use oracle::cells::{Cells, loaded, stored};
 use oracle::choices::Row;
 use oracle::numbers::{byte, word};
 use plain::is_covered;
-use tables::RunAnswer;
+use tables::run;
 
 mod layouts; // layouts.rt: the tables by their numbers
 mod plain; // plain.rt: plain runs
@@ -73,7 +73,7 @@ fn cells(q: Question) -> Cells {
 
 // The number of a cell by its row: n or more where the row is none.
 fn cell_number(row: u64) -> u64 {
-    std::num::wrapping_sub_u64(row, BASE)
+    row.wrapping_sub(BASE)
 }
 
 // Row i after the record, by enumeration.
@@ -94,19 +94,11 @@ fn expected(q: Question, i: u64) -> Row {
 
 // Whether these rows are the expected ones.
 fn are_expected(q: Question, mask: &[u32; 8], value: &[u32; 8]) -> bool {
-    let mut i: u64 = 0;
-    while i < 8 {
-        let row = expected(q, i);
+    (0..8).all(|i| {
         let k = at(i);
-        if mask[k] != row.mask {
-            return false;
-        }
-        if value[k] != row.value {
-            return false;
-        }
-        i += 1;
-    }
-    true
+        let row = expected(q, i);
+        mask[k] == row.mask && value[k] == row.value
+    })
 }
 
 // The widths of the rows.
@@ -123,14 +115,6 @@ fn record(q: Question) -> [u32; 6] {
     [24, 0, word(q.a), 0, word(q.n), word(BASE)]
 }
 
-// Whether run answers 1: all of one record.
-fn is_done(answer: RunAnswer) -> bool {
-    match answer {
-        RunAnswer::Done(last) => last == 1,
-        RunAnswer::Refused(_) => false,
-    }
-}
-
 // Whether run and the enumeration agree, and run covers plain runs from the least numbers that the rows cover, from the greatest, and from others.
 fn agrees(q: Question) -> bool {
     let width = widths(q);
@@ -138,8 +122,8 @@ fn agrees(q: Question) -> bool {
     let mut mask = q.mask;
     let mut value = q.value;
     let words = record(q);
-    let answer = tables::run(&width, &lock, &mut mask, &mut value, &words, 0, 1);
-    is_done(answer)
+    let answer = run(&width, &lock, &mut mask, &mut value, &words, 0, 1);
+    answer == Ok(1)
         && are_expected(q, &mask, &value)
         && is_covered(q, 0b000, &mask, &value)
         && is_covered(q, 0b111, &mask, &value)

@@ -26,17 +26,12 @@ fn end_number(q: Question, choice: u64, i: u64) -> u64 {
 
 // Whether these rows cover the numbers after the record.
 pub fn is_covered(q: Question, choice: u64, mask: &[u32; 8], value: &[u32; 8]) -> bool {
-    let mut i: u64 = 0;
-    while i < 8 {
+    (0..8).all(|i| {
         let k = at(i);
         let row = Row {
             mask: mask[k],
             value: value[k],
         };
-        if !covers(width_at(q, i), row, end_number(q, choice, i)) {
-            return false;
-        }
-        i += 1;
-    }
-    true
+        covers(width_at(q, i), row, end_number(q, choice, i))
+    })
 }

@@ -2,30 +2,17 @@
 // every data vector, and with every cell as the data.
 use crate::agrees;
 use crate::layouts::{LAYOUTS, Layout, fits, layout_of, question, tables_of};
-use trials::counting::{Tally, joined, none, one};
+use trials::counting::{Tally, each, none, one};
 
 // All tables of a layout.
 fn each_table(l: Layout) -> Tally {
-    let end = tables_of(l);
-    let mut tally = none();
-    let mut m: u64 = 0;
-    while m < end {
-        tally = joined(tally, one(agrees(question(l, m))));
-        m += 1;
-    }
-    tally
+    each(tables_of(l), |m| one(agrees(question(l, m))))
 }
 
 // The tables of every layout, and those on which run disagrees with the enumeration or with a plain run.
 pub fn memories() -> Tally {
-    let mut tally = none();
-    let mut number: u64 = 0;
-    while number < LAYOUTS {
+    each(LAYOUTS, |number| {
         let l = layout_of(number);
-        if fits(l) {
-            tally = joined(tally, each_table(l));
-        }
-        number += 1;
-    }
-    tally
+        if fits(l) { each_table(l) } else { none() }
+    })
 }

@@ -15,16 +15,16 @@ use Rattle.operations.specs.Kinds.{is_kind, kind_of}
 use Rattle.operations.specs.Memory.{span}
 use Rattle.operations.specs.declared.Record.{Record}
 use Rattle.operations.specs.Record.{words_of, used, used_last, operands, sixth_rows, rows_named}
-use Rattle.operations.specs.Encoding.{use_code, is_plain, is_number}
+use Rattle.operations.specs.Encoding.{use_told, is_plain, is_number}
 use Rattle.operations.proofs.Sound.{first-is-row, only_store}
 use Rattle.checks.proofs.Memory.{words}
 use Rattle.needs.specs.Needs.{marked, ceasing, becoming, need_before}
-use Rattle.needs.specs.Encoding.{with_mark, needs_before, SpanIn, RowsIn}
+use Rattle.needs.specs.Encoding.{rows_told, with_mark, needs_before, SpanIn, RowsIn}
 use Rattle.needs.proofs.Marks.{mark-append, needs-marked}
 
 -- ---- which rows a word stands for
 
-pub one_word : (u : Use) → T (is_plain u) → T (not (is_number u)) → (b : ℕ) → span b (use_code u) ≡ used u b []
+pub one_word : (u : Use) → T (is_plain u) → T (not (is_number u)) → (b : ℕ) → span b (rows_told (use_told u)) ≡ used u b []
 unfolding listed
 one_word as_row p n b = refl
 one_word as_number p n b = absurd n
@@ -32,7 +32,7 @@ one_word as_count p n b = absurd p
 one_word as_base p n b = absurd p
 one_word unused p n b = refl
 
-pub last_word : (u : Use) → T (is_plain u) → T (not (is_number u)) → (c p : ℕ) → span c (use_code u) ≡ used_last u (sixth_rows u c p)
+pub last_word : (u : Use) → T (is_plain u) → T (not (is_number u)) → (c p : ℕ) → span c (rows_told (use_told u)) ≡ used_last u (sixth_rows u c p)
 unfolding listed
 last_word as_row q n c p = refl
 last_word as_number q n c p = absurd n
@@ -110,22 +110,20 @@ module _ (r : Record) (h : T (is_kind r.kind)) where
       let rest = all_right P xs (bs ++ cs) all in
       (subst (All P) first-named (all_left P xs (bs ++ cs) all), (all_left P bs cs rest, all_right P bs cs rest))
 
--- as spans, from places that are the words
-module _ {m : ℕ} (r : Record) (R : RowsIn m r) (x : ℕ) where
-  pub first_in : x ≡ r.a → x < m
+-- as spans
+module _ {m : ℕ} (r : Record) (R : RowsIn m r) where
+  pub first_in : r.a < m
   unfolding listed
-  first_in e = subst (λ (y : ℕ). y < m) (sym e) (named-parts r R.known (λ i. i < m) R.operands_in).0.0
+  first_in = (named-parts r R.known (λ i. i < m) R.operands_in).0.0
 
-  pub data-in : r.kind ≡ 25 → x ≡ r.b → x < m
-  data-in k e = subst (λ (y : ℕ). y < m) (sym e) (subst (All (λ i. i < m)) (store-named r R.known k) R.operands_in).1.0
+  pub data-in : r.kind ≡ 25 → r.b < m
+  data-in k = (subst (All (λ i. i < m)) (store-named r R.known k) R.operands_in).1.0
 
-  pub second_in : (n : ℕ) → x ≡ r.b → span r.b n ≡ used (kind_of r.kind).use_b r.b [] → SpanIn m x n
-  second_in n e f =
-      record { rows_in = subst (λ (y : ℕ). All (λ i. i < m) (span y n)) (sym e) (subst (All (λ i. i < m)) (sym f) (named-parts r R.known (λ i. i < m) R.operands_in).1.0) }
+  pub second_in : (n : ℕ) → span r.b n ≡ used (kind_of r.kind).use_b r.b [] → SpanIn m r.b n
+  second_in n f = record { rows_in = subst (All (λ i. i < m)) (sym f) (named-parts r R.known (λ i. i < m) R.operands_in).1.0 }
 
-  pub sixth_in : (n : ℕ) → x ≡ r.c → span r.c n ≡ used_last (kind_of r.kind).use_c (sixth_rows (kind_of r.kind).use_c r.c r.p) → SpanIn m x n
-  sixth_in n e f =
-      record { rows_in = subst (λ (y : ℕ). All (λ i. i < m) (span y n)) (sym e) (subst (All (λ i. i < m)) (sym f) (named-parts r R.known (λ i. i < m) R.operands_in).1.1) }
+  pub sixth_in : (n : ℕ) → span r.c n ≡ used_last (kind_of r.kind).use_c (sixth_rows (kind_of r.kind).use_c r.c r.p) → SpanIn m r.c n
+  sixth_in n f = record { rows_in = subst (All (λ i. i < m)) (sym f) (named-parts r R.known (λ i. i < m) R.operands_in).1.1 }
 
 -- ---- the bytes stand for the needed rows
 
@@ -150,20 +148,17 @@ module _ (need : List ℕ) (r : Record) (R : RowsIn (length need) r) where
 -- ---- the bytes that need_before leaves
 
 module _ (r : Record) (h : T (is_kind r.kind)) (need : List ℕ) where
-  -- a: the address, b: the data
-  pub store-marked : r.kind ≡ 25 → (a b : ℕ) → a ≡ r.a → b ≡ r.b → set (set need a 1) b 1 ≡ needs_before (words_of r) need
+  pub store-marked : r.kind ≡ 25 → set (set need r.a 1) r.b 1 ≡ needs_before (words_of r) need
   unfolding needs_before
-  store-marked e a b ea eb =
-      ap₂ (λ (x y : ℕ). set (set need x 1) y 1) ea eb ∙ sym (ap₂ (λ (x y : List ℕ). with_mark 1 x (with_mark 0 y need)) (store-becoming r h e) (store-ceasing r h e))
+  store-marked e = sym (ap₂ (λ (x y : List ℕ). with_mark 1 x (with_mark 0 y need)) (store-becoming r h e) (store-ceasing r h e))
 
-  -- t: the row t; nb, nc: how many rows b and c stand for; n1, n2: the bytes after these are marked
-  pub row-marked : (r.kind ≡ 25 → ⊥) → (t a b c nb nc : ℕ) → t ≡ r.t → a ≡ r.a → b ≡ r.b → c ≡ r.c
+  -- nb, nc: how many rows b and c stand for; n1, n2: the bytes after these are marked
+  pub row-marked : (r.kind ≡ 25 → ⊥) → (nb nc : ℕ)
       → span r.b nb ≡ used (kind_of r.kind).use_b r.b [] → span r.c nc ≡ used_last (kind_of r.kind).use_c (sixth_rows (kind_of r.kind).use_c r.c r.p)
-      → (n1 n2 : List ℕ) → n1 ≡ with_mark 1 (span b nb) (set (set need t 0) a 1) → n2 ≡ with_mark 1 (span c nc) n1 → n2 ≡ needs_before (words_of r) need
+      → (n1 n2 : List ℕ) → n1 ≡ with_mark 1 (span r.b nb) (set (set need r.t 0) r.a 1) → n2 ≡ with_mark 1 (span r.c nc) n1 → n2 ≡ needs_before (words_of r) need
   unfolding listed
-  row-marked d t a b c nb nc et ea eb ec sb sc n1 n2 e1 e2 =
+  row-marked d nb nc sb sc n1 n2 e1 e2 =
       e2
-      ∙ ap (with_mark 1 (span c nc)) e1
-      ∙ (λ ι. with_mark 1 (span (ec ι) nc) (with_mark 1 (span (eb ι) nb) (set (set need (et ι) 0) (ea ι) 1)))
+      ∙ ap (with_mark 1 (span r.c nc)) e1
       ∙ (λ ι. with_mark 1 (sc ι) (with_mark 1 (sb ι) (with_mark 1 (sym (first-named r h) ι) (set need r.t 0))))
       ∙ sym (row_before r h d need)

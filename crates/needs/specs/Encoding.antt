@@ -1,4 +1,5 @@
 -- How the code holds the needed rows, a byte a row, and what it takes for granted. Cited by contracts of inner functions alone: no public contract rests on it.
+--   rows_told u               how many rows a word stands for, that names no cells
 --   with_mark m rows need      the bytes with m at each of the rows
 --   needs_before words need    the rows needed before a record that stays, as bytes
 --   ZeroOrOne need            every byte is 0 or 1
@@ -12,12 +13,20 @@ use Rattle.operations.specs.Limits.{record_words}
 use Rattle.operations.specs.Kinds.{is_kind}
 use Rattle.operations.specs.Memory.{span}
 use Rattle.operations.specs.declared.Record.{Record}
+use Rattle.operations.specs.declared.descriptions.WordUse.{WordUse}
+use Rattle.operations.specs.declared.descriptions.WordUse.TheVariants.{Nothing, Row, Number, Cells}
 use Rattle.operations.specs.Record.{words_of, rows_named}
 use Rattle.checks.specs.Table.{record_of}
 use Rattle.checks.specs.Model.{lent}
 use Rattle.checks.specs.Encoding.{TargetsIn}
 use Rattle.steps.specs.Step.{set_all}
 use Rattle.needs.specs.Needs.{ceasing, becoming}
+
+abbrev pub rows_told : WordUse → ℕ
+rows_told Nothing = 0
+rows_told Row = 1
+rows_told Number = 0
+rows_told Cells = 0
 
 abbrev pub with_mark : ℕ → List ℕ → List ℕ → List ℕ
 with_mark m rows need = set_all (λ i. i) (λ i. m) rows need

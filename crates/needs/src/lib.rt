@@ -7,9 +7,9 @@ ghost use Rattle.operations.specs.Kinds.{is_kind, kind_of};
 ghost use Rattle.operations.specs.Memory.{span};
 ghost use Rattle.operations.specs.Record.{words_of, used, used_last, sixth_rows};
 ghost use Rattle.needs.specs.Needs.{marked};
-ghost use Rattle.needs.specs.Encoding.{with_mark, needs_before, ZeroOrOne, SpanIn, RowsIn, RoomForMarks};
+ghost use Rattle.needs.specs.Encoding.{rows_told, with_mark, needs_before, ZeroOrOne, SpanIn, RowsIn, RoomForMarks};
 
-use bits::index;
+use operations::descriptions::WordUse;
 use operations::{LOAD, Record, STORE, second_use, sixth_use};
 
 // The n rows from the base on become needed. The lowest bit is set: a constant would be compiled to a call of a function that is not the library's.
@@ -17,10 +17,18 @@ fn mark_span(need: &mut [u8], base: usize, n: usize)
     requires { ZeroOrOne need.old × SpanIn (length need.old) base n }
     ensures { need.new ≡ with_mark 1 (span base n) need.old }
 {
-    let mut i: usize = 0;
-    while i < n {
+    for i in 0..n {
         need[base + i] = need[base + i] | 1;
-        i += 1;
+    }
+}
+
+// How many rows a word stands for, that names no cells: one where it is a row.
+fn rows_of(u: WordUse) -> usize
+    ensures { result ≡ rows_told u }
+{
+    match u {
+        WordUse::Row => 1,
+        WordUse::Nothing | WordUse::Number | WordUse::Cells => 0,
     }
 }
 
@@ -29,7 +37,7 @@ fn second_rows(r: Record) -> usize
     requires { T (is_kind r.kind) }
     ensures { span r.b result ≡ used (kind_of r.kind).use_b r.b [] }
 {
-    second_use(r.kind) as usize
+    rows_of(second_use(r.kind))
 }
 
 // How many rows the sixth word stands for, of a kind that writes a row t: the cells of a load, or the condition of an ite.
@@ -38,9 +46,9 @@ fn sixth_rows(r: Record) -> usize
     ensures { span r.c result ≡ used_last (kind_of r.kind).use_c (sixth_rows (kind_of r.kind).use_c r.c r.p) }
 {
     if r.kind == LOAD {
-        return index(r.p);
+        return r.p as usize;
     }
-    sixth_use(r.kind) as usize
+    rows_of(sixth_use(r.kind))
 }
 
 // From the rows needed after a record that stays to those needed before it.
@@ -49,18 +57,18 @@ pub fn need_before(need: &mut [u8], r: Record)
     ensures { need.new ≡ needs_before (words_of r) need.old }
 {
     if r.kind == STORE {
-        let address = index(r.a);
-        let data = index(r.b);
+        let address = r.a as usize;
+        let data = r.b as usize;
         need[address] = 1;
         need[data] = 1;
         return;
     }
-    let t = index(r.t);
-    let a = index(r.a);
+    let t = r.t as usize;
+    let a = r.a as usize;
     need[t] = 0;
     need[a] = 1;
-    mark_span(need, index(r.b), second_rows(r));
-    mark_span(need, index(r.c), sixth_rows(r));
+    mark_span(need, r.b as usize, second_rows(r));
+    mark_span(need, r.c as usize, sixth_rows(r));
 }
 
 // At the end the marked rows are needed. What the room holds at first is 0.
@@ -69,11 +77,9 @@ pub fn take_marks(marks: &[u8], need: &mut [u8])
     requires { RoomForMarks marks.now need.old }
     ensures { ((i : ℕ) → marked need.new i ≡ marked marks.now i) × (length need.new ≡ length need.old) × ZeroOrOne need.new }
 {
-    let mut i: usize = 0;
-    while i < marks.len() {
+    for i in 0..marks.len() {
         if marks[i] == 1 {
             need[i] = 1;
         }
-        i += 1;
     }
 }

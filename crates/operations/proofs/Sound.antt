@@ -3,14 +3,14 @@
 --   first-is-row, rule-suits, condition-chosen, second-is-row, ..   the tests, of the kind that has a number
 use mathlib.Core.Path.{◌≡◌, refl}
 use mathlib.Core.Bool.{Bool, true, false, not, cond, ◌&&◌, ◌||◌}
-use Prim.Native.Nat.{ℕ, ◌%◌}
+use Prim.Native.Nat.{ℕ}
 use mathlib.Core.Logic.{inl, inr}
 use lib.Dec.{T, T_not, leb, eqb, eqb→eq}
 use Rattle.bits.specs.Below.{all_below}
 use Rattle.bits.proofs.Bools.{T-left, T-right, T-or}
 use Rattle.operations.specs.Kind.{Use, as_row, as_number, as_count, as_base, unused, is_row, is_base, Rule, same_width, same_widths, taken_width, joined_widths, extended_width, compared_widths, chosen_widths, cell_widths, Kind}
 use Rattle.operations.specs.Kinds.{kind_count, is_kind, kind_of}
-use Rattle.operations.specs.Encoding.{is_plain, is_number, word_class}
+use Rattle.operations.specs.Encoding.{is_plain, is_number, word_class, uses_second, uses_parameter, uses_sixth}
 use Rattle.operations.proofs.Lookup.{kind-test}
 
 pub row_is : (u : Use) → T (is_row u) → u ≡ as_row
@@ -179,14 +179,14 @@ module _ (n : ℕ) (h : T (is_kind n)) where
     sixth-plain = T-right (is_plain k.use_p) (is_plain k.use_c) uses-plain
 
     -- what the class of its words says
-    pub class-second : eqb (word_class k % 2) 1 ≡ is_row k.use_b
+    pub class-second : uses_second (word_class k) ≡ is_row k.use_b
     unfolding all_below kind_count kind_of
-    class-second = told (λ m. eqb (word_class (kind_of m) % 2) 1) (λ m. is_row (kind_of m).use_b) tt
+    class-second = told (λ m. uses_second (word_class (kind_of m))) (λ m. is_row (kind_of m).use_b) tt
 
-    pub class-parameter : eqb (word_class k) 2 ≡ is_number k.use_p
+    pub class-parameter : uses_parameter (word_class k) ≡ is_number k.use_p
     unfolding all_below kind_count kind_of
-    class-parameter = told (λ m. eqb (word_class (kind_of m)) 2) (λ m. is_number (kind_of m).use_p) tt
+    class-parameter = told (λ m. uses_parameter (word_class (kind_of m))) (λ m. is_number (kind_of m).use_p) tt
 
-    pub class-sixth : eqb (word_class k) 3 ≡ is_row k.use_c
+    pub class-sixth : uses_sixth (word_class k) ≡ is_row k.use_c
     unfolding all_below kind_count kind_of
-    class-sixth = told (λ m. eqb (word_class (kind_of m)) 3) (λ m. is_row (kind_of m).use_c) tt
+    class-sixth = told (λ m. uses_sixth (word_class (kind_of m))) (λ m. is_row (kind_of m).use_c) tt

@@ -7,6 +7,7 @@ pub mod Arithmetic
 pub mod Wide
 pub mod Memory
 pub mod Kinds
+pub mod KindNumbers
 pub mod Encoding
 pub mod Record
 pub mod Faults

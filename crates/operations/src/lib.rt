@@ -8,7 +8,13 @@ ghost use Rattle.operations.specs.Limits.{record_words};
 ghost use Rattle.operations.specs.Kind.{is_base};
 ghost use Rattle.operations.specs.Kinds.{is_kind, kind_of};
 ghost use Rattle.operations.specs.Record.{words_of};
-ghost use Rattle.operations.specs.Encoding.{digit_of, use_code, word_class, rule_code};
+ghost use Rattle.operations.specs.Encoding.{digit_of, use_told, word_class, rule_model};
+
+pub mod descriptions; // descriptions.rt: what the descriptions say, by name
+pub mod kind; // kind.rt: the kinds by name
+
+use descriptions::{WidthRule, WordClass, WordUse, class_of, rule_of, use_of};
+use kind::Kind;
 
 // A record by its words: kind, target row t, operand rows a and b, parameter p, and the sixth word c, a base row or the condition.
 #[derive(Clone, Copy)]
@@ -38,12 +44,12 @@ pub fn put_record(words: &mut [u32], at: usize, r: Record)
 }
 
 // How many kinds there are.
-pub const KINDS: u32 = 26;
+pub const KINDS: u32 = Kind::Store as u32 + 1;
 
 // The kinds that have cells, the last two.
-pub const LOAD: u32 = 24;
+pub const LOAD: u32 = Kind::Load as u32;
 
-pub const STORE: u32 = 25;
+pub const STORE: u32 = Kind::Store as u32;
 
 // What the word b is to each kind: 0 nothing, 1 a row, 2 a number, 3 of cells: how many, or their base row.
 const SECOND: u64 = 0b01_00_01_01_01_01_01_01_01_01_00_01_01_00_00_01_00_00_00_00_00_01_01_01_00_00;
@@ -96,35 +102,35 @@ fn digit(word: u64, kind: u32) -> u64
 }
 
 // What the word b is to a kind.
-pub fn second_use(kind: u32) -> u64
+pub fn second_use(kind: u32) -> WordUse
     requires { T (is_kind kind) }
-    ensures { result ≡ use_code (kind_of kind).use_b }
+    ensures { result ≡ use_told (kind_of kind).use_b }
 {
-    digit(SECOND, kind)
+    use_of(digit(SECOND, kind))
 }
 
 // The same of the word p.
-pub fn parameter_use(kind: u32) -> u64
+pub fn parameter_use(kind: u32) -> WordUse
     requires { T (is_kind kind) }
-    ensures { result ≡ use_code (kind_of kind).use_p }
+    ensures { result ≡ use_told (kind_of kind).use_p }
 {
-    digit(PARAMETER, kind)
+    use_of(digit(PARAMETER, kind))
 }
 
 // The same of the sixth word.
-pub fn sixth_use(kind: u32) -> u64
+pub fn sixth_use(kind: u32) -> WordUse
     requires { T (is_kind kind) }
-    ensures { result ≡ use_code (kind_of kind).use_c }
+    ensures { result ≡ use_told (kind_of kind).use_c }
 {
-    digit(SIXTH, kind)
+    use_of(digit(SIXTH, kind))
 }
 
 // Which of the words b, p and the sixth a kind without cells uses.
-pub fn word_class(kind: u32) -> u64
+pub fn word_class(kind: u32) -> WordClass
     requires { T (is_kind kind) }
     ensures { result ≡ word_class (kind_of kind) }
 {
-    digit(CLASSES, kind)
+    class_of(digit(CLASSES, kind))
 }
 
 // Whether a kind is a load or a store, which have cells.
@@ -145,11 +151,11 @@ pub fn named_twice(kind: u32, a: u32, b: u32) -> bool
 }
 
 // The width rule of a kind.
-pub fn rule(kind: u32) -> u64
+pub fn rule(kind: u32) -> WidthRule
     requires { T (is_kind kind) }
-    ensures { result ≡ rule_code (kind_of kind).rule }
+    ensures { rule_model result ≡ (kind_of kind).rule }
 {
-    digit(RULES, kind) + digit(RULES_FOURS, kind) * 4
+    rule_of(digit(RULES, kind) + digit(RULES_FOURS, kind) * 4)
 }
 
 // The length of a kind's name.

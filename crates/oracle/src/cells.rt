@@ -2,8 +2,7 @@
 ghost use Rattle.std.specs.Prelude.{◌≤◌};
 ghost use Rattle.bits.specs.Limits.{width_limit};
 
-use crate::choices::{Row, Seen, both, covers, nothing, row_of};
-use crate::numbers::{power, word};
+use crate::choices::{Row, Seen, bits_of, over, row_of};
 
 // The rows of at most four cells.
 #[derive(Clone, Copy)]
@@ -37,24 +36,7 @@ pub fn store_number(i: u64, address: u64, data: u64, cell: u64) -> u64 {
 fn seen_of(w: u64, row: Row) -> Seen
     requires { w ≤ width_limit }
 {
-    let n = power(w);
-    let full = word(n - 1);
-    let mut seen = nothing();
-    let mut x: u64 = 0;
-    while x < n {
-        if covers(w, row, x) {
-            let r = word(x);
-            seen = both(
-                seen,
-                Seen {
-                    zeros: full ^ r,
-                    ones: r,
-                },
-            );
-        }
-        x += 1;
-    }
-    seen
+    over(w, row, |x| bits_of(w, x))
 }
 
 // The row that a load with this address gives, from n cells of width w.
@@ -71,16 +53,7 @@ fn loaded_at(w: u64, n: u64, address: u64, cells: Cells) -> Seen
 pub fn loaded(w: u64, n: u64, wa: u64, address: Row, cells: Cells) -> Row
     requires { (w ≤ width_limit) × (wa ≤ width_limit) }
 {
-    let end = power(wa);
-    let mut seen = nothing();
-    let mut x: u64 = 0;
-    while x < end {
-        if covers(wa, address, x) {
-            seen = both(seen, loaded_at(w, n, x, cells));
-        }
-        x += 1;
-    }
-    row_of(seen)
+    row_of(over(wa, address, |x| loaded_at(w, n, x, cells)))
 }
 
 // The row of cell i, of width w, that a store with this address gives.
@@ -97,14 +70,5 @@ fn stored_at(w: u64, i: u64, address: u64, data: Row, cell: Row) -> Seen
 pub fn stored(w: u64, i: u64, wa: u64, address: Row, data: Row, cell: Row) -> Row
     requires { (w ≤ width_limit) × (wa ≤ width_limit) }
 {
-    let end = power(wa);
-    let mut seen = nothing();
-    let mut x: u64 = 0;
-    while x < end {
-        if covers(wa, address, x) {
-            seen = both(seen, stored_at(w, i, x, data, cell));
-        }
-        x += 1;
-    }
-    row_of(seen)
+    row_of(over(wa, address, |x| stored_at(w, i, x, data, cell)))
 }

@@ -1,14 +1,13 @@
 // The choices of covered operands, and the bits that they give (01, "Abstract result"; 02, request 2), by plain enumeration.
 ghost use Rattle.std.specs.Prelude.{◌^◌, ◌<◌, ◌≤◌};
 ghost use Rattle.bits.specs.Limits.{width_limit};
-ghost use Rattle.oracle.specs.Sizes.{Sized};
 
 use crate::numbers::{bit, power, word};
 use crate::plain::plain;
 use crate::shapes::{Shape, one_number};
 
 // A row's mask and value.
-#[derive(Clone, Copy)]
+#[derive(Clone, Copy, PartialEq, Eq)]
 pub struct Row {
     pub mask: u32,
     pub value: u32,
@@ -34,69 +33,57 @@ pub fn both(a: Seen, b: Seen) -> Seen {
     }
 }
 
+// The bits of a number of width w.
+pub fn bits_of(w: u64, x: u64) -> Seen
+    requires { w ≤ width_limit }
+{
+    let r = word(x);
+    Seen {
+        zeros: word(power(w) - 1) ^ r,
+        ones: r,
+    }
+}
+
 // Whether a row of width w covers x: they agree at every known bit, one by one.
 pub fn covers(w: u64, row: Row, x: u64) -> bool
     requires { w ≤ width_limit }
 {
     let mask = row.mask as u64;
     let value = row.value as u64;
-    let mut k: u64 = 0;
-    while k < w {
-        if bit(mask, k) == 0 {
-            if bit(value, k) != bit(x, k) {
-                return false;
-            }
+    (0..w).all(|k| bit(mask, k) == 1 || bit(value, k) == bit(x, k))
+}
+
+// What all numbers give that a row of width w covers.
+pub fn over<F: Fn(u64) -> Seen>(w: u64, row: Row, given: F) -> Seen
+    requires w_bound { w ≤ width_limit }
+    requires callable { (x : _) → x < 2 ^ w → F.pre given x }
+{
+    let mut seen = nothing();
+    for x in 0..power(w) {
+        if covers(w, row, x) {
+            seen = both(seen, given(x));
         }
-        k += 1;
     }
-    true
+    seen
 }
 
 // All choices of the condition, with x and y for the operands.
 fn of_condition(s: Shape, x: u64, y: u64, c: Row) -> Seen
-    requires sized { Sized s.wt s.wa s.wb s.p }
-    requires x_bound { (x < 2 ^ s.wa) × (y < 4294967296) }
+    requires { (x < 2 ^ s.wa) × (y < 4294967296) }
 {
-    let full = word(power(s.wt) - 1);
-    let mut seen = nothing();
-    let mut z: u64 = 0;
-    while z < 2 {
-        if covers(1, c, z) {
-            let r = word(plain(s, x, y, z));
-            seen = both(
-                seen,
-                Seen {
-                    zeros: full ^ r,
-                    ones: r,
-                },
-            );
-        }
-        z += 1;
-    }
-    seen
+    over(1, c, |z| bits_of(s.wt, plain(s, x, y, z)))
 }
 
 // All choices of the second operand and the condition, with x for the first operand.
 fn of_second(s: Shape, x: u64, b: Row, c: Row) -> Seen
-    requires sized { Sized s.wt s.wa s.wb s.p }
-    requires x_bound { x < 2 ^ s.wa }
+    requires { x < 2 ^ s.wa }
 {
-    let n = power(s.wb);
-    let mut seen = nothing();
-    let mut y: u64 = 0;
-    while y < n {
-        if covers(s.wb, b, y) {
-            seen = both(seen, of_condition(s, x, y, c));
-        }
-        y += 1;
-    }
-    seen
+    over(s.wb, b, |y| of_condition(s, x, y, c))
 }
 
 // The same, or where `one` holds of one number for both operands.
 fn of_rest(s: Shape, one: bool, x: u64, b: Row, c: Row) -> Seen
-    requires sized { Sized s.wt s.wa s.wb s.p }
-    requires x_bound { x < 2 ^ s.wa }
+    requires { x < 2 ^ s.wa }
 {
     if one {
         return of_condition(s, x, x, c);
@@ -105,19 +92,8 @@ fn of_rest(s: Shape, one: bool, x: u64, b: Row, c: Row) -> Seen
 }
 
 // All choices of the operands and the condition.
-fn of_all(s: Shape, one: bool, a: Row, b: Row, c: Row) -> Seen
-    requires { Sized s.wt s.wa s.wb s.p }
-{
-    let n = power(s.wa);
-    let mut seen = nothing();
-    let mut x: u64 = 0;
-    while x < n {
-        if covers(s.wa, a, x) {
-            seen = both(seen, of_rest(s, one, x, b, c));
-        }
-        x += 1;
-    }
-    seen
+fn of_all(s: Shape, one: bool, a: Row, b: Row, c: Row) -> Seen {
+    over(s.wa, a, |x| of_rest(s, one, x, b, c))
 }
 
 // A bit that is seen 0 and seen 1 is unknown.
@@ -130,15 +106,11 @@ pub fn row_of(seen: Seen) -> Row {
 }
 
 // The target's row.
-pub fn enumerated(s: Shape, a: Row, b: Row, c: Row) -> Row
-    requires { Sized s.wt s.wa s.wb s.p }
-{
+pub fn enumerated(s: Shape, a: Row, b: Row, c: Row) -> Row {
     row_of(of_all(s, false, a, b, c))
 }
 
 // The same where the words a and b name one row.
-pub fn enumerated_twice(s: Shape, a: Row, c: Row) -> Row
-    requires { Sized s.wt s.wa s.wb s.p }
-{
+pub fn enumerated_twice(s: Shape, a: Row, c: Row) -> Row {
     row_of(of_all(s, one_number(s.kind), a, a, c))
 }

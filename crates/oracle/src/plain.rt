@@ -1,8 +1,7 @@
-// Each kind without cells on plain numbers (01, "Points and plain runs"; 02, request 4).
+// Each kind without cells on plain numbers (01, "Points and plain runs"; 02, request 4), by the kind's number as shapes.rt has it.
 ghost use Rattle.std.specs.Prelude.{◌^◌, ◌<◌, ◌≤◌};
 ghost use Rattle.bits.specs.Limits.{width_limit};
 ghost use Rattle.operations.specs.Limits.{parameter_limit};
-ghost use Rattle.oracle.specs.Sizes.{Sized};
 
 use crate::numbers::{bit, least, power, times, truth};
 use crate::shapes::Shape;
@@ -12,10 +11,8 @@ fn copied(n: u64, w: u64, p: u64, a: u64) -> u64
     requires { (n ≤ width_limit) × (1 ≤ w) × (w ≤ width_limit) × (p ≤ parameter_limit) }
 {
     let mut r: u64 = 0;
-    let mut k: u64 = 0;
-    while k < n {
+    for k in 0..n {
         r |= bit(a, least(k + p, w - 1)) << k;
-        k += 1;
     }
     r
 }
@@ -25,10 +22,8 @@ fn rotated(w: u64, p: u64, a: u64) -> u64
     requires { (1 ≤ w) × (w ≤ width_limit) × (p ≤ parameter_limit) }
 {
     let mut r: u64 = 0;
-    let mut k: u64 = 0;
-    while k < w {
+    for k in 0..w {
         r |= bit(a, k) << ((k + p) % w);
-        k += 1;
     }
     r
 }
@@ -52,13 +47,12 @@ fn signed_word(w: u64, a: u64) -> u64
     if 2 * a < end {
         return a;
     }
-    std::num::wrapping_sub_u64(a, end) % 4294967296
+    a.wrapping_sub(end) % 4294967296
 }
 
 // The new number of the target, from the operands' numbers. Differences are taken modulo 2^64 and signed factors modulo 2^32: 2^wt divides both.
 pub fn plain(s: Shape, a: u64, b: u64, c: u64) -> u64
-    requires sized { Sized s.wt s.wa s.wb s.p }
-    requires a_bound { (a < 2 ^ s.wa) × (b < 4294967296) }
+    requires { (a < 2 ^ s.wa) × (b < 4294967296) }
 {
     let kind = s.kind;
     let w = power(s.wa);
@@ -77,8 +71,8 @@ pub fn plain(s: Shape, a: u64, b: u64, c: u64) -> u64
         10 => times(a, power(s.wb)) + b,
         12 => copied(s.wt, s.wa, 0, a),
         13 => (a + b) % w,
-        14 => std::num::wrapping_sub_u64(a, b) % w,
-        15 => std::num::wrapping_sub_u64(0, a) % w,
+        14 => a.wrapping_sub(b) % w,
+        15 => 0u64.wrapping_sub(a) % w,
         16 => times(a, b) % w,
         17 => truth(a == b),
         18 => truth(a < b),

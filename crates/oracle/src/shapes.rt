@@ -1,4 +1,5 @@
-// Kinds, widths and parameters that fit together (01, "Records"; 02, requests 4 and 11).
+// Kinds, widths and parameters that fit together (01, "Records"; 02, requests 4 and 11). A kind stands by its number there, so that nothing here rests on the
+// code that is tested.
 ghost use Rattle.oracle.specs.Sizes.{Sized};
 
 // How many kinds there are.
@@ -17,6 +18,7 @@ pub struct Shape {
     pub wa: u64,
     pub wb: u64,
     pub p: u64,
+    pub ghost sized: { Sized wt wa wb p },
 }
 
 // Whether the kind uses a second operand.
@@ -41,9 +43,7 @@ pub fn uses_condition(kind: u64) -> bool {
 }
 
 // Whether the widths are the kind's. A second operand that it does not use has width 1.
-fn widths_fit(s: Shape) -> bool
-    requires { Sized s.wt s.wa s.wb s.p }
-{
+fn widths_fit(s: Shape) -> bool {
     let kind = s.kind;
     match kind {
         2..=4 | 13..=14 | 16 | 20 => s.wt == s.wa && s.wb == s.wa,
@@ -65,8 +65,6 @@ fn parameter_fits(s: Shape) -> bool {
 }
 
 // Whether the widths and the parameter are the kind's, which has no cells.
-pub fn fits(s: Shape) -> bool
-    requires { Sized s.wt s.wa s.wb s.p }
-{
+pub fn fits(s: Shape) -> bool {
     parameter_fits(s) && widths_fit(s)
 }

@@ -1,2 +1,3 @@
 -- The laws and proofs of `orders`.
+pub mod Equal
 pub mod Orders

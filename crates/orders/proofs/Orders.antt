@@ -1,13 +1,11 @@
 -- Each answer of compare_states says what it means, and the tests of two vectors do. Assumes nothing.
-use mathlib.Core.Path.{◌≡◌, refl, sym, ap, ◌∙◌, subst}
+use mathlib.Core.Path.{◌≡◌, refl, sym, ◌∙◌, subst}
 use mathlib.Core.Bool.{Bool, true, false, cond}
 use mathlib.Core.List.{List, ◌++◌}
 use Prim.Native.Nat.{ℕ, ◌<◌}
-use native.Mathlib.Omega.{arith}
 use lib.Dec.{T, eqb, eqb→eq}
 use lib.ListN.{length, get_or}
-use lib.Seq.{ext_get_or}
-use Rattle.bits.proofs.Bools.{T_and, T-left, T-right, T_not-not, eq→eqb}
+use Rattle.bits.proofs.Bools.{T_not-not}
 use Rattle.bits.proofs.Below.{all_below-intro, all_below-elim}
 use Rattle.vectors.specs.Row.{Row, WellFormed, Inside as InsideRow}
 use Rattle.vectors.specs.Hull.{join}
@@ -22,20 +20,10 @@ use Rattle.steps.specs.States.{StateFits, InsideState}
 use Rattle.steps.specs.Encoding.{OwnRows}
 use Rattle.orders.specs.declared.Order.{Order}
 use Rattle.orders.specs.declared.Order.TheVariants.{Equal, Inside, Around, NoneOfThese}
-use Rattle.orders.specs.Order.{equal_row, inside_row, equal_states, inside_states, order_of, compare_shape_faults, compare_row_faults, compare_row_checks, compare_checks, compare_of, OrderMeans}
+use Rattle.orders.proofs.Equal.{equal-of-test, test-of-equal, equal-of-tests}
+use Rattle.orders.specs.Order.{inside_row, equal_states, inside_states, order_of, compare_shape_faults, compare_row_faults, compare_row_checks, compare_checks, compare_of, OrderMeans}
 
 -- ---- two vectors
-
-equal-of-test : (p q : Row) → p.width ≡ q.width → T (equal_row p q) → p ≡ q
-equal-of-test p q e t =
-    λ ι. record {
-      width = e ι;
-      mask = eqb→eq p.mask q.mask (T-left (eqb p.mask q.mask) _ t) ι;
-      value = eqb→eq p.value q.value (T-right (eqb p.mask q.mask) _ t) ι;
-    }
-
-test-of-equal : (p q : Row) → p ≡ q → T (equal_row p q)
-test-of-equal p q e = T_and (eqb p.mask q.mask) _ (eq→eqb (ap (λ (r : Row). r.mask) e)) (eq→eqb (ap (λ (r : Row). r.value) e))
 
 module _ (p q : Row) (F : WellFormed p) (G : WellFormed q) (e : p.width ≡ q.width) where
   inside-of-test : T (inside_row p q) → InsideRow p q
@@ -55,18 +43,6 @@ module _ (widths : List ℕ) (p q : State) (S : StateFits widths p) (U : StateFi
   unfolding inside_states
   tests-of-inside I = all_below-intro (length widths) _ (λ i h. test-of-inside (row_at widths p i) (row_at widths q i) (S.formed i h) (U.formed i h) refl (I i h))
 
-  -- states with the same rows are one
-  equal-of-tests : T (equal_states widths p q) → p ≡ q
-  unfolding equal_states
-  equal-of-tests t =
-      λ ι. record {
-        masks = ext_get_or 0 p.masks q.masks (S.masks_length ∙ sym U.masks_length) (λ i h. ap (λ (r : Row). r.mask) (row_is i (let l = S.masks_length in omega arith))) ι;
-        values = ext_get_or 0 p.values q.values (S.values_length ∙ sym U.values_length) (λ i h. ap (λ (r : Row). r.value) (row_is i (let l = S.values_length in omega arith))) ι;
-      }
-    where
-      row_is : (i : ℕ) → i < length widths → row_at widths p i ≡ row_at widths q i
-      row_is i h = equal-of-test (row_at widths p i) (row_at widths q i) refl (all_below-elim (length widths) _ t i h)
-
   -- states of which each lies inside the other are equal
   tests-of-both : InsideState widths p q → InsideState widths q p → T (equal_states widths p q)
   unfolding equal_states
@@ -74,10 +50,13 @@ module _ (widths : List ℕ) (p q : State) (S : StateFits widths p) (U : StateFi
       all_below-intro (length widths) _
       (λ i h. test-of-equal (row_at widths p i) (row_at widths q i) (inside_both (row_at widths p i) (row_at widths q i) (S.formed i h) (U.formed i h) refl (I i h) (J i h)))
 
+own : {widths : List ℕ} {s : State} → StateFits widths s → OwnRows widths s.masks s.values
+own S = record { masks_length = S.masks_length; values_length = S.values_length }
+
 order-means : (widths : List ℕ) (p q : State) → StateFits widths p → StateFits widths q → OrderMeans widths p q (order_of widths p q)
 unfolding order_of
 order-means widths p q S U =
-    go (equal_states widths p q) (inside_states widths p q) (inside_states widths q p) (equal-of-tests widths p q S U) (tests-of-both widths p q S U)
+    go (equal_states widths p q) (inside_states widths p q) (inside_states widths q p) (equal-of-tests widths p q (own S) (own U)) (tests-of-both widths p q S U)
     (inside-of-tests widths p q S U) (tests-of-inside widths p q S U) (inside-of-tests widths q p U S) (tests-of-inside widths q p U S)
   where
     go : (a b c : Bool) → (T a → p ≡ q) → (InsideState widths p q → InsideState widths q p → T a) → (T b → InsideState widths p q) → (InsideState widths p q → T b)

@@ -1,3 +1,2 @@
 -- The definitions of `orders`.
 pub mod Order
-pub mod Model

@@ -6,10 +6,10 @@ ghost use Rattle.steps.specs.States.{held};
 ghost use Rattle.steps.specs.Encoding.{OwnRows};
 ghost use Rattle.orders.specs.Order.{compare_shape_faults, compare_row_checks, compare_checks};
 
-use bits::wide;
 use checks::limits::ROW_LIMIT;
+use checks::refusals::Reason;
 use checks::rows::check_two_vectors;
-use checks::{Verdict, refusals, refuse};
+use checks::{Verdict, refuse};
 
 // Checks 1 and 2 of two states.
 #[tactic(auto, unfolding(checks::specs::Check::verdict))]
@@ -18,24 +18,24 @@ fn check_lengths(width: &[u8], ma: &[u32], va: &[u32], mb: &[u32], vb: &[u32]) -
 {
     let n = width.len();
     if n == 0 {
-        return refuse(refusals::ROWS, 0);
+        return refuse(Reason::Rows, 0);
     }
     if ROW_LIMIT < n {
-        return refuse(refusals::ROWS, 0);
+        return refuse(Reason::Rows, 0);
     }
     if ma.len() != n {
-        return refuse(refusals::LENGTHS, 0);
+        return refuse(Reason::Lengths, 0);
     }
     if va.len() != n {
-        return refuse(refusals::LENGTHS, 0);
+        return refuse(Reason::Lengths, 0);
     }
     if mb.len() != n {
-        return refuse(refusals::LENGTHS, 0);
+        return refuse(Reason::Lengths, 0);
     }
     if vb.len() != n {
-        return refuse(refusals::LENGTHS, 0);
+        return refuse(Reason::Lengths, 0);
     }
-    Verdict::Passed
+    Ok(())
 }
 
 // Rows rising: 4 of the width, 5 of the first state's row, 5 of the second's.
@@ -43,30 +43,16 @@ fn check_both_rows(width: &[u8], ma: &[u32], va: &[u32], mb: &[u32], vb: &[u32])
     requires { OwnRows width.now ma.now va.now × OwnRows width.now mb.now vb.now }
     ensures { verdict_model result ≡ judged (compare_row_checks width.now (held ma.now va.now) (held mb.now vb.now)) }
 {
-    let mut i: usize = 0;
-    while i < width.len() {
-        let found = check_two_vectors(wide(width[i]), ma[i], va[i], mb[i], vb[i], i);
-        match found {
-            Verdict::Passed => {}
-            Verdict::Refused(_) => {
-                return found;
-            }
-        }
-        i += 1;
+    for i in 0..width.len() {
+        check_two_vectors(width[i] as u32, ma[i], va[i], mb[i], vb[i], i)?;
     }
-    Verdict::Passed
+    Ok(())
 }
 
 // What compare_states refuses.
 pub fn check_states(width: &[u8], ma: &[u32], va: &[u32], mb: &[u32], vb: &[u32]) -> Verdict
     ensures { verdict_model result ≡ judged (compare_checks width.now (held ma.now va.now) (held mb.now vb.now)) }
 {
-    let found = check_lengths(width, ma, va, mb, vb);
-    match found {
-        Verdict::Refused(_) => {
-            return found;
-        }
-        Verdict::Passed => {}
-    }
+    check_lengths(width, ma, va, mb, vb)?;
     check_both_rows(width, ma, va, mb, vb)
 }

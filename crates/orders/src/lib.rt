@@ -3,13 +3,13 @@
 
 ghost use Rattle.std.specs.Prelude.{◌≡◌};
 ghost use Rattle.checks.specs.Check.{done};
+ghost use Rattle.checks.specs.Model.{answer_model};
 ghost use Rattle.steps.specs.States.{held};
 ghost use Rattle.steps.specs.Encoding.{OwnRows};
 ghost use Rattle.orders.specs.declared.Order.{Order};
 ghost use Rattle.orders.specs.Order.{order_of, compare_of, OrderMeans};
-ghost use Rattle.orders.specs.Model.{compare_model};
 
-use checks::{Refusal, Verdict};
+use checks::refusals::Refusal;
 use inputs::check_states;
 use rows::{equal_states, inside_states};
 
@@ -17,19 +17,12 @@ mod inputs; // inputs.rt: what compare_states checks first
 pub mod rows; // rows.rt: vectors and rows compared
 
 // How the first state stands to the second: equal to it, inside it, around it, or none of these.
-#[derive(Clone, Copy)]
+#[derive(Clone, Copy, PartialEq, Eq)]
 pub enum Order {
     Equal,
     Inside,
     Around,
     NoneOfThese,
-}
-
-// An order, or a refusal.
-#[derive(Clone, Copy)]
-pub enum CompareAnswer {
-    Ordered(Order),
-    Refused(Refusal),
 }
 
 // The order of two states that passed the checks.
@@ -56,19 +49,14 @@ pub fn compare_states(
     value_1: &[u32],
     mask_2: &[u32],
     value_2: &[u32],
-) -> CompareAnswer
+) -> Result<Order, Refusal>
     ensures answer { let first = held mask_1.now value_1.now in
         let second = held mask_2.now value_2.now in
-        compare_model result ≡ compare_of width.now first second }
+        answer_model result ≡ compare_of width.now first second }
     ensures means { let first = held mask_1.now value_1.now in
         let second = held mask_2.now value_2.now in
-        ((o : Order) → compare_model result ≡ done o → OrderMeans width.now first second o) }
+        ((o : Order) → answer_model result ≡ done o → OrderMeans width.now first second o) }
 {
-    match check_states(width, mask_1, value_1, mask_2, value_2) {
-        Verdict::Refused(r) => {
-            return CompareAnswer::Refused(r);
-        }
-        Verdict::Passed => {}
-    }
-    CompareAnswer::Ordered(order_of(width, mask_1, value_1, mask_2, value_2))
+    check_states(width, mask_1, value_1, mask_2, value_2)?;
+    Ok(order_of(width, mask_1, value_1, mask_2, value_2))
 }

@@ -25,16 +25,14 @@ pub fn put_word(out: &mut [u8], at: usize, w: &[u8]) -> usize
     ensures { Put out.old out.new at result w.now }
 {
     let mut to = at;
-    let mut i: usize = 0;
-    while i < w.len() {
+    for i in 0..w.len() {
         out[to] = w[i];
         to += 1;
-        i += 1;
     }
     to
 }
 
-// Writes a number from `at` on: its last digits from the end back, then its first digit.
+// Writes a number from `at` on: its last digits from the end back, then its first digit. By hand, since a formatter of std needs a writer that may fail.
 pub fn put_number(out: &mut [u8], at: usize, n: usize) -> usize
     requires { Holds out.old at (decimal n) }
     ensures { Put out.old out.new at result (decimal n) }
@@ -73,10 +71,8 @@ fn put_letters(out: &mut [u8], at: usize, w: u32, m: u32, v: u32) -> usize
     requires { (w ≤ width_limit) × Holds out.old at (letters_of w m v) }
     ensures { Put out.old out.new at result (letters_of w m v) }
 {
-    let mut k = w;
     let mut to = at;
-    while 0 < k {
-        k -= 1;
+    for k in (0..w).rev() {
         out[to] = letter_of(m, v, k);
         to += 1;
     }

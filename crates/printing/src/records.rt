@@ -16,11 +16,9 @@ fn put_name(out: &mut [u8], at: usize, k: usize) -> usize
 {
     let len = name_len(k);
     let mut to = at;
-    let mut i: usize = 0;
-    while i < len {
+    for i in 0..len {
         out[to] = name_byte(k, i);
         to += 1;
-        i += 1;
     }
     to
 }

@@ -35,8 +35,8 @@ fn column_sum(a: u32, b: u32, k: u32) -> i64
     let mut total: i64 = 0;
     let mut rest = a & width_mask(k + 1);
     while rest != 0 {
-        total = total + row(b, u32::trailing_zeros(rest), k);
-        rest = rest & (rest - 1);
+        total += row(b, rest.trailing_zeros(), k);
+        rest &= rest - 1;
     }
     total
 }

@@ -6,7 +6,6 @@ ghost use Rattle.bits.specs.Four.{reversed_words};
 ghost use Rattle.products.specs.Factors.{and_not, least_bit, greatest_bit, extremes_of, with_pair, settled_bit};
 
 use crate::column_sums::{bit_of_floors, column_floor, low_row};
-use bits::FourWords;
 use vectors::OutputBit;
 
 // One factor for each of the two vectors.
@@ -39,14 +38,14 @@ fn and_not(x: u32, y: u32) -> u32
 }
 
 // An unknown bit whose partner is known takes the partner's bit in the least sum, the other one in the greatest.
-pub fn extreme_factors(ma: u32, va: u32, mb: u32, vb: u32, reverses: FourWords, k: u32) -> Extremes
+pub fn extreme_factors(ma: u32, va: u32, mb: u32, vb: u32, reverses: [u32; 4], k: u32) -> Extremes
     requires { (k < width_limit) × (reverses ≡ reversed_words ma va mb vb) }
     ensures { result ≡ extremes_of k ma va mb vb }
 {
-    let a_value = partners(reverses.b, k);
-    let b_value = partners(reverses.d, k);
-    let a_single = and_not(ma, partners(reverses.c, k));
-    let b_single = and_not(mb, partners(reverses.a, k));
+    let a_value = partners(reverses[1], k);
+    let b_value = partners(reverses[3], k);
+    let a_single = and_not(ma, partners(reverses[2], k));
+    let b_single = and_not(mb, partners(reverses[0], k));
     let least = Factors {
         a: va | (a_single & b_value),
         b: vb | (b_single & a_value),

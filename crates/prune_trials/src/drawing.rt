@@ -63,7 +63,7 @@ pub fn drawn_rows(table: u64) -> Rows {
     let mask = drawn(table, 4, 0, 256) & 0b11_01_01_01;
     let value = drawn(table, 4, 1, 256) & 0b11_01_01_01;
     Rows {
-        mask: mask,
+        mask,
         value: (value | mask) ^ mask,
     }
 }

@@ -51,8 +51,7 @@ fn feeds(records: u64, stay: u64, marks: u64, j: u64) -> bool
     requires { j < 4 }
 {
     let mut rows = written(records >> (16 * j));
-    let mut k = j + 1;
-    while k < 4 {
+    for k in j + 1..4 {
         let r = records >> (16 * k);
         if bit(stay, k) == 1 {
             if rows & read(r) != 0 {
@@ -60,7 +59,6 @@ fn feeds(records: u64, stay: u64, marks: u64, j: u64) -> bool
             }
             rows = left(r, rows);
         }
-        k += 1;
     }
     rows & marks != 0
 }
@@ -72,13 +70,11 @@ pub fn staying(records: u64, marks: u64) -> Kept {
         records: 0,
     };
     let mut stay: u64 = 0;
-    let mut j: u64 = 4;
-    while j > 0 {
-        j -= 1;
+    for j in (0..4).rev() {
         if feeds(records, stay, marks, j) {
             stay |= power(j);
             kept = Kept {
-                count: std::num::wrapping_add_u64(kept.count, 1),
+                count: kept.count.wrapping_add(1),
                 records: kept.records << 16 | (records >> (16 * j)) % 65536,
             };
         }

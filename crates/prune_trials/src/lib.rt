@@ -3,11 +3,12 @@
 // A table has four rows, of the widths 1, 1, 1 and 2, and four records of any kind.
 #![tactic(auto)]
 
+use checks::refusals::Refusal;
 use drawing::{drawn_marks, drawn_records, drawn_rows};
 use followed::{Kept, staying};
 use oracle::numbers::{byte, word};
-use pruning::{PruneAnswer, prune};
-use records::{are_words_of, words_of};
+use pruning::prune;
+use records::words_of;
 use reset_trials::rows::{masks, values};
 use tables::run;
 
@@ -27,33 +28,30 @@ fn marks_of(marks: u64) -> [u8; 5] {
     ]
 }
 
-// An answer as a number: how many records stay, or ten thousand times the number of a refusal and its place.
-fn number(answer: PruneAnswer) -> u64 {
-    match answer {
-        PruneAnswer::Records(records) => records as u64,
-        PruneAnswer::Refused(r) => {
-            std::num::wrapping_add_u64(r.number as u64 * 10000, r.place as u64)
-        }
-    }
-}
-
 // What `prune` answers on the rows of a table, which all have this lock.
-fn answered(table: u64, lock: u8, words: &mut [u32], marks: &[u8]) -> u64 {
+fn answered(table: u64, lock: u8, words: &mut [u32], marks: &[u8]) -> Result<usize, Refusal> {
     let width = [1u8, 1, 1, 2];
     let lock = [lock; 4];
     let start = drawn_rows(table);
     let mask = masks(start);
     let value = values(start);
-    number(prune(&width, &lock, &mask, &value, words, marks))
+    prune(&width, &lock, &mask, &value, words, marks)
 }
 
 // Whether `prune`, lent the first n of these marks, gives this answer and leaves the words of these records.
-fn leaves(table: u64, lock: u8, marks: u64, n: u64, answer: u64, records: u64) -> bool {
+fn leaves(
+    table: u64,
+    lock: u8,
+    marks: u64,
+    n: u64,
+    due: Result<usize, Refusal>,
+    records: u64,
+) -> bool {
     let mut words = words_of(drawn_records(table));
     let marks = marks_of(marks);
     let n = (n % 6) as usize;
-    let found = answered(table, lock, &mut words, &marks[0..n]);
-    found == answer && are_words_of(&words, records)
+    let answer = answered(table, lock, &mut words, &marks[0..n]);
+    answer == due && words == words_of(records)
 }
 
 // Runs the first n of these records.
@@ -63,7 +61,7 @@ fn run_first(mask: &mut [u32; 4], value: &mut [u32; 4], records: u64, n: u64) {
     let words = words_of(records);
     let last = (n % 5) as usize;
     let end = 6 * last;
-    run(&width, &lock, mask, value, &words[0..end], 0, last);
+    let _ = run(&width, &lock, mask, value, &words[0..end], 0, last);
 }
 
 // Four rows in one number, two bits each.
@@ -94,5 +92,12 @@ fn kept_of(table: u64) -> Kept {
 // Whether `prune` keeps these records, and a full run of them leaves the marked rows as that of all does.
 fn agrees(table: u64) -> bool {
     let kept = kept_of(table);
-    leaves(table, 0, drawn_marks(table), 4, kept.count, kept.records) && same_marked(table, kept)
+    leaves(
+        table,
+        0,
+        drawn_marks(table),
+        4,
+        Ok(kept.count as usize),
+        kept.records,
+    ) && same_marked(table, kept)
 }

@@ -16,25 +16,5 @@ fn word_at(records: u64, i: u64) -> u32 {
 
 // The words.
 pub fn words_of(records: u64) -> [u32; 24] {
-    let mut words = [0u32; 24];
-    let mut i: u64 = 0;
-    while i < 24 {
-        let k = i as usize;
-        words[k] = word_at(records, i);
-        i += 1;
-    }
-    words
-}
-
-// Whether these are the words.
-pub fn are_words_of(words: &[u32; 24], records: u64) -> bool {
-    let mut i: u64 = 0;
-    while i < 24 {
-        let k = i as usize;
-        if words[k] != word_at(records, i) {
-            return false;
-        }
-        i += 1;
-    }
-    true
+    std::array::from_fn(|i| word_at(records, i as u64))
 }

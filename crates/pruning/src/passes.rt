@@ -19,10 +19,9 @@ fn keep_back(words: &mut [u32], need: &mut [u8]) -> usize
         × (length words.new ≡ length words.old)
         × (drop (record_words * result) words.new ≡ words_kept table (kept_of table need.old)) }
 {
-    let mut i = words.len() / RECORD_WORDS;
-    let mut first = i;
-    while 0 < i {
-        i -= 1;
+    let n = words.len() / RECORD_WORDS;
+    let mut first = n;
+    for i in (0..n).rev() {
         let r = record_at(words, i);
         if target_marked(need, r) {
             need_before(need, r);
@@ -38,21 +37,16 @@ fn word_after(words: &[u32], from: usize, j: usize) -> u32
     requires { from ≤ length words.now }
     ensures { result ≡ get_or (drop from words.now) j 0 }
 {
-    if j < words.len() - from {
-        return words[from + j];
-    }
-    0
+    words[from..].get(j).copied().unwrap_or(0)
 }
 
-// The pass forward: the words from a place on move down to the start, and zeros follow them.
+// The pass forward: the words from a place on move down to the start, and zeros follow them. A loop, since the library's fill would be compiled to a call of memset.
 fn move_down(words: &mut [u32], from: usize)
     requires { from ≤ length words.old }
     ensures { words.new ≡ drop from words.old ++ replicate from 0 }
 {
-    let mut j: usize = 0;
-    while j < words.len() {
+    for j in 0..words.len() {
         words[j] = word_after(words, from, j);
-        j += 1;
     }
 }
 

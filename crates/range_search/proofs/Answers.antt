@@ -1,4 +1,4 @@
--- What range_in gives is the best vector, the smallest and the largest, and no other answer is; empty is said exactly where there is no such number. Assumes nothing.
+-- What range_in gives is the best vector, the smallest and the largest, and no other answer is; none is said exactly where there is no such number. Assumes nothing.
 use mathlib.Core.Path.{◌≡◌, refl, ap, ◌∙◌}
 use mathlib.Core.Bool.{Bool, true, false, not, cond}
 use mathlib.Core.Logic.{◌↔◌}
@@ -15,8 +15,7 @@ use Rattle.vectors.proofs.Choices.{covers-of-test, test-of-covers}
 use Rattle.vectors.proofs.Hulls.{Inhabited, hull-unique}
 use Rattle.vectors.proofs.Bests.{best_of-hull}
 use Rattle.range_search.specs.declared.Range.{Range}
-use Rattle.range_search.specs.declared.InRange.{InRange}
-use Rattle.range_search.specs.declared.InRange.TheVariants.{Found, Empty}
+use Rattle.std.specs.Prelude.{Option, Some, None}
 use Rattle.range_search.specs.Range.{Between, betweenb, none_between, range_in, in_range_of, Ranged}
 use Rattle.range_search.proofs.Extremes.{Passing, smallest-below, largest-below}
 
@@ -79,18 +78,18 @@ module _ (r : Row) (low high : ℕ) where
 
   -- ---- what the code has to show
 
-  choose : (b : Bool) → (T b → ⊥) → (x : InRange) → x ≡ cond b Empty x
+  choose : (b : Bool) → (T b → ⊥) → (x : Option Range) → x ≡ cond b None x
   choose true h x = absurd (h tt)
   choose false h x = refl
 
-  pub is-empty : ((n : ℕ) → Between r low high n → ⊥) → Empty ≡ in_range_of r low high
+  pub is-empty : ((n : ℕ) → Between r low high n → ⊥) → None ≡ in_range_of r low high
   is-empty h = go (none_between r low high) (none-iff.1 h)
     where
-      go : (b : Bool) → T b → Empty ≡ cond b Empty (Found (range_in r low high))
+      go : (b : Bool) → T b → None ≡ cond b None (Some (range_in r low high))
       go true t = refl
       go false t = absurd t
 
-  pub is_found : (x : Range) → Ranged r low high x → Found x ≡ in_range_of r low high
+  pub is_found : (x : Range) → Ranged r low high x → Some x ≡ in_range_of r low high
   is_found x X =
-      ap Found (ranged-only x (range_in r low high) X (ranged (record { member = x.smallest; is_inside = X.smallest_is.is_inside })))
-      ∙ choose (none_between r low high) (λ t. none-iff.0 t x.smallest X.smallest_is.is_inside) (Found (range_in r low high))
+      ap Some (ranged-only x (range_in r low high) X (ranged (record { member = x.smallest; is_inside = X.smallest_is.is_inside })))
+      ∙ choose (none_between r low high) (λ t. none-iff.0 t x.smallest X.smallest_is.is_inside) (Some (range_in r low high))

@@ -4,7 +4,7 @@ use Prim.Native.Nat.{ℕ, ◌+◌, ◌-◌, ◌≤◌, ◌<◌}
 use native.Mathlib.Omega.{arith}
 use Rattle.vectors.specs.Row.{Row, row, WellFormed, Covers}
 use Rattle.vectors.proofs.Rows.{top, value-least, top-greatest}
-use Rattle.range_search.specs.declared.InRange.TheVariants.{Found, Empty}
+use Rattle.std.specs.Prelude.{Some, None}
 use Rattle.range_search.specs.Extremes.{Least, Greatest}
 use Rattle.range_search.specs.Range.{Between, in_range_of}
 use Rattle.range_search.specs.Encoding.{PartUpTo, spanned}
@@ -13,14 +13,14 @@ use Rattle.range_search.proofs.Spans.{span-hull}
 use Rattle.range_search.proofs.Answers.{is-empty, is_found}
 
 module _ (r : Row) (F : WellFormed r) (low high : ℕ) where
-  pub none_from : top r < low → Empty ≡ in_range_of r low high
+  pub none_from : top r < low → None ≡ in_range_of r low high
   none_from h = is-empty r low high (λ n b. let t = top-greatest r n F b.covered in let l = b.from in omega arith)
 
   module _ (s : ℕ) (h : low ≤ top r) (S : Greatest (PartUpTo r.mask (top r - low)) s) where
     L : Least (λ n. Covers r n × (low ≤ n)) (top r - s)
     L = smallest-from r F low s h S
 
-    pub none-to : high < top r - s → Empty ≡ in_range_of r low high
+    pub none-to : high < top r - s → None ≡ in_range_of r low high
     none-to above = is-empty r low high (λ n b. let l = L.least n (b.covered, b.from) in let t = b.to in omega arith)
 
     module _ (below : top r - s ≤ high) where
@@ -49,7 +49,7 @@ module _ (r : Row) (F : WellFormed r) (low high : ℕ) where
               greatest = λ n b. G.greatest n (b.covered, b.to);
             }
 
-        pub found : Found (record {
+        pub found : Some (record {
           mask = (spanned r.mask (top r - s) (r.value + t)).mask;
           value = (spanned r.mask (top r - s) (r.value + t)).value;
           smallest = top r - s;
@@ -63,5 +63,5 @@ module _ (r : Row) (F : WellFormed r) (low high : ℕ) where
             })
 
 -- the same with the vector's parts for variables
-pub none_above : (w m v low high s : ℕ) → WellFormed (row w m v) → low ≤ top (row w m v) → Greatest (PartUpTo m (top (row w m v) - low)) s → high < top (row w m v) - s → Empty ≡ in_range_of (row w m v) low high
+pub none_above : (w m v low high s : ℕ) → WellFormed (row w m v) → low ≤ top (row w m v) → Greatest (PartUpTo m (top (row w m v) - low)) s → high < top (row w m v) - s → None ≡ in_range_of (row w m v) low high
 none_above w m v low high s F h S above = none-to (row w m v) F low high s h S above

@@ -2,17 +2,15 @@
 --   Between r low high n    n lies between the ends, ends included, and the vector r covers it;   betweenb   the test of this
 --   none_between r low high  there is no such number
 --   range_in r low high      the best vector covering all these numbers, with the smallest and the largest of them
---   in_range_of r low high    that, or empty
+--   in_range_of r low high    that, or none
 --   Ranged r low high x     what is claimed of x as such an answer
-use Rattle.std.specs.Prelude.{Bool, not, cond, ◌&&◌, ℕ, ◌^◌, ◌≤◌, leb}
+use Rattle.std.specs.Prelude.{Bool, not, cond, ◌&&◌, ℕ, ◌^◌, ◌≤◌, leb, Option, None, Some}
 use Rattle.bits.specs.Below.{some_below}
 use Rattle.vectors.specs.Row.{Row, row, Covers}
 use Rattle.vectors.specs.Choice.{coversb}
 use Rattle.vectors.specs.Best.{best_of}
 use Rattle.vectors.specs.Hull.{Hull}
 use Rattle.range_search.specs.declared.Range.{Range}
-use Rattle.range_search.specs.declared.InRange.{InRange}
-use Rattle.range_search.specs.declared.InRange.TheVariants.{Found, Empty}
 use Rattle.range_search.specs.Extremes.{Least, Greatest, smallest_below, largest_below}
 
 -- "all numbers that lie between the ends, ends included, and that the vector covers"
@@ -38,8 +36,8 @@ range_in r low high =
       largest = largest_below (2 ^ r.width) (betweenb r low high);
     }
 
-abbrev pub in_range_of : Row → ℕ → ℕ → InRange
-in_range_of r low high = cond (none_between r low high) Empty (Found (range_in r low high))
+abbrev pub in_range_of : Row → ℕ → ℕ → Option Range
+in_range_of r low high = cond (none_between r low high) None (Some (range_in r low high))
 
 -- the same without a test or a search: the hull of these numbers, one of them that no other is below, and one that no other is above
 pub record Ranged (r : Row) (low high : ℕ) (x : Range) : Type 0 where

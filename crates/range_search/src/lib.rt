@@ -28,10 +28,8 @@ fn greatest_part(w: u32, m: u32, bound: u32) -> u32
     ensures { Greatest (PartUpTo m bound) result }
 {
     let mut part = 0;
-    let mut k = w;
-    while 0 < k {
-        k = k - 1;
-        part = part + fitting_bit(m, k, bound - part);
+    for k in (0..w).rev() {
+        part += fitting_bit(m, k, bound - part);
     }
     part
 }
@@ -41,10 +39,10 @@ fn greatest_part(w: u32, m: u32, bound: u32) -> u32
 fn span(m: u32, a: u32, b: u32) -> Vector
     ensures { result ≡ spanned m a b }
 {
-    let n = 32 - u32::leading_zeros(a ^ b);
+    let n = 32 - (a ^ b).leading_zeros();
     let mask = m & (((1u64 << n) - 1) as u32);
     Vector {
-        mask: mask,
+        mask,
         value: a & !mask,
     }
 }
@@ -58,33 +56,27 @@ pub struct Range {
     pub largest: u32,
 }
 
-// These, or that the set is empty.
-#[derive(Clone, Copy)]
-pub enum InRange {
-    Found(Range),
-    Empty,
-}
-
-// The numbers from low to high that a vector covers. A covered number is the vector's value and a part of its mask, or value and mask less a part of it.
+// The numbers from low to high that a vector covers, or `None` where there is none. A covered number is the vector's value and a part of its mask, or value and
+// mask less a part of it.
 #[tactic(auto, using(crate::proofs::Finding::none_above))]
-pub fn in_range(w: u32, m: u32, v: u32, low: u32, high: u32) -> InRange
+pub fn in_range(w: u32, m: u32, v: u32, low: u32, high: u32) -> Option<Range>
     requires { (w ≤ 32) × WellFormed (row w m v) }
     ensures { result ≡ in_range_of (row w m v) low high }
 {
     let top = v | m;
     if top < low {
-        return InRange::Empty;
+        return None;
     }
     let smallest = top - greatest_part(w, m, top - low);
     if high < smallest {
-        return InRange::Empty;
+        return None;
     }
     let largest = v + greatest_part(w, m, high - v);
     let best = span(m, smallest, largest);
-    InRange::Found(Range {
+    Some(Range {
         mask: best.mask,
         value: best.value,
-        smallest: smallest,
-        largest: largest,
+        smallest,
+        largest,
     })
 }

@@ -11,7 +11,6 @@ ghost use Rattle.conclusions.specs.Pass as Pass;
 ghost use Rattle.conclusions.specs.Pass.{position, bits_in, concludesb, walk, pass_rows};
 ghost use Rattle.reset_search.specs.Encoding.{TrialReady, PassReady};
 
-use bits::wide;
 use conclusions::{Conclusion, bit_at, forget, holds};
 use steps::copy_rows;
 use tables::stepping::step_all;
@@ -57,12 +56,8 @@ fn visit(
         let table = lent width.now locks mask.old value.old words.now in
         Accepted table 0 (record_count table) → held mask.new value.new ≡ Pass.visit table c (start_of table) (position i k) }
 {
-    if bit_at(mask[i], k) != 0 {
-        return;
-    }
-    if keeps(width, mask, value, words, tmask, tvalue, c, i, k) {
+    if bit_at(mask[i], k) == 0 && keeps(width, mask, value, words, tmask, tvalue, c, i, k) {
         forget(mask, value, i, k);
-        return;
     }
 }
 
@@ -86,11 +81,9 @@ fn visit_row(
     if lock[i] != 0 {
         return;
     }
-    let w = wide(width[i]);
-    let mut k: u32 = 0;
-    while k < w {
+    let w = width[i] as u32;
+    for k in 0..w {
         visit(width, mask, value, words, tmask, tvalue, c, i, k);
-        k += 1;
     }
 }
 
@@ -109,9 +102,7 @@ pub fn pass(
     ensures { let table = lent width.now lock.now mask.old value.old words.now in
         held mask.new value.new ≡ pass_rows table c }
 {
-    let mut i: usize = 0;
-    while i < width.len() {
+    for i in 0..width.len() {
         visit_row(width, lock, mask, value, words, tmask, tvalue, c, i);
-        i += 1;
     }
 }

@@ -3,12 +3,11 @@
 
 ghost use Rattle.std.specs.Prelude.{◌<◌};
 
-use checks::refusals;
+use checks::refusals::{Reason, Refusal};
 use oracle::numbers::{bit, byte, power, word};
 use records::{record, result};
-use resets::{ResetAnswer, reset_bits};
+use resets::reset_bits;
 use rows::{Rows, masks, values, with_last, with_unknown};
-use trials::same;
 
 mod records; // records.rt: records that write row 3
 pub mod rows; // rows.rt: four rows of 2 bits
@@ -25,17 +24,17 @@ struct Question {
     bit: u64,
 }
 
-// How the bit named ends: 0, 1, or 2 for X.
-fn ends(q: Question, set: u64) -> u64
+// How the bit named ends, where it is known.
+fn ends(q: Question, set: u64) -> Option<u32>
     requires { q.bit < 2 }
 {
     let rows = with_unknown(q.rows, set);
     let made = with_last(rows, result(q.first, rows, 0, 1));
     let end = result(q.second, made, 3, 2);
     if bit(end.mask as u64, q.bit) == 1 {
-        return 2;
+        return None;
     }
-    bit(end.value as u64, q.bit)
+    Some(word(bit(end.value as u64, q.bit)))
 }
 
 // The bits of row i where it is open.
@@ -55,45 +54,30 @@ fn visited(q: Question) -> u64 {
 }
 
 // The bits that become X, one after another, where the bit named then ends as before.
-fn pass(q: Question, known: u64, value: u64) -> u64
+fn pass(q: Question, known: u64, value: u32) -> u64
     requires { q.bit < 2 }
 {
     let mut set: u64 = 0;
-    let mut n: u64 = 0;
-    while n < 8 {
+    for n in 0..8 {
         let more = set | power(n);
-        if bit(known, n) == 1 && ends(q, more) == value {
+        if bit(known, n) == 1 && ends(q, more) == Some(value) {
             set = more;
         }
-        n += 1;
     }
     set
 }
 
 // Whether no greater set of these bits leaves the bit named as it is.
-fn is_greatest(q: Question, known: u64, set: u64, value: u64) -> bool
+fn is_greatest(q: Question, known: u64, set: u64, value: u32) -> bool
     requires { q.bit < 2 }
 {
-    let mut more: u64 = 0;
-    while more < 256 {
-        if more & set == set && more | known == known && more != set && ends(q, more) == value {
-            return false;
-        }
-        more += 1;
-    }
-    true
+    !(0..256).any(|more| {
+        more & set == set && more | known == known && more != set && ends(q, more) == Some(value)
+    })
 }
 
-// Whether the answer is the one that is due: the bit's value, or 19 for X.
-fn answers(answer: ResetAnswer, value: u64) -> bool {
-    match answer {
-        ResetAnswer::Value(b) => b as u64 == value,
-        ResetAnswer::Refused(r) => value == 2 && r.number == refusals::UNKNOWN && r.place == 0,
-    }
-}
-
-// Whether `reset_bits` gives this answer and leaves the rows with this set of bits X.
-fn leaves(q: Question, value: u64, set: u64) -> bool {
+// Whether `reset_bits` answers with the bit's value, or refuses an unknown one, and leaves the rows with this set of bits X.
+fn leaves(q: Question, value: Option<u32>, set: u64) -> bool {
     let width = [2u8; 4];
     let lock = [
         byte(bit(q.locked, 0)),
@@ -107,32 +91,33 @@ fn leaves(q: Question, value: u64, set: u64) -> bool {
         first[0], first[1], first[2], first[3], first[4], first[5], second[0], second[1],
         second[2], second[3], second[4], second[5],
     ];
-    let mut mask = masks(q.rows);
-    let mut value_slice = values(q.rows);
+    let mut end_mask = masks(q.rows);
+    let mut end_value = values(q.rows);
     let answer = reset_bits(
         &width,
         &lock,
-        &mut mask,
-        &mut value_slice,
+        &mut end_mask,
+        &mut end_value,
         &words,
         3,
         word(q.bit),
     );
     let left = with_unknown(q.rows, set);
-    let end = masks(left);
-    let end_value = values(left);
-    answers(answer, value) && same(&mask, &end) && same(&value_slice, &end_value)
+    let due = value.ok_or(Refusal {
+        reason: Reason::Unknown,
+        place: 0,
+    });
+    answer == due && end_mask == masks(left) && end_value == values(left)
 }
 
 // Whether `reset_bits` and the enumeration agree, and no greater set of bits could be left unset.
 fn agrees(q: Question) -> bool
     requires { q.bit < 2 }
 {
-    let value = ends(q, 0);
-    if value == 2 {
-        return leaves(q, value, 0);
-    }
+    let Some(value) = ends(q, 0) else {
+        return leaves(q, None, 0);
+    };
     let known = visited(q);
     let set = pass(q, known, value);
-    leaves(q, value, set) && is_greatest(q, known, set, value)
+    leaves(q, Some(value), set) && is_greatest(q, known, set, value)
 }

@@ -39,7 +39,7 @@ pub fn result(kind: u64, rows: Rows, a: u64, b: u64) -> Row
         return stored(2, 0, 2, first, second, row_at(rows, 3));
     }
     let s = Shape {
-        kind: kind,
+        kind,
         wt: 2,
         wa: 2,
         wb: 2,

@@ -5,7 +5,7 @@ use oracle::choices::Row;
 use oracle::numbers::{power, word};
 
 // Four rows of 2 bits, in two numbers: row i has the bits from 2i on.
-#[derive(Clone, Copy)]
+#[derive(Clone, Copy, PartialEq, Eq)]
 pub struct Rows {
     pub mask: u64,
     pub value: u64,

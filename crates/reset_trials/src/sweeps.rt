@@ -4,7 +4,7 @@ ghost use Rattle.std.specs.Prelude.{◌≤◌, ◌<◌};
 use crate::rows::Rows;
 use crate::{Question, agrees};
 use oracle::numbers::power;
-use trials::counting::{Tally, joined, none, one};
+use trials::counting::{Tally, each, one};
 
 // A kind of two operands of one width: and, or, xor, add, sub, mul, load or store.
 fn kind(n: u64) -> u64 {
@@ -22,21 +22,16 @@ fn kind(n: u64) -> u64 {
 
 // Both bits of row 3.
 fn both_bits(rows: Rows, locked: u64, first: u64, second: u64) -> Tally {
-    let low = Question {
-        rows: rows,
-        locked: locked,
-        first: first,
-        second: second,
-        bit: 0,
-    };
-    let high = Question {
-        rows: rows,
-        locked: locked,
-        first: first,
-        second: second,
-        bit: 1,
-    };
-    joined(one(agrees(low)), one(agrees(high)))
+    each(2, |bit| {
+        let q = Question {
+            rows,
+            locked,
+            first,
+            second,
+            bit,
+        };
+        one(agrees(q))
+    })
 }
 
 // Rows 0 to 2 with these values, known but for bit n - 1 of theirs where n is not 0; row 3 has a value of its own.
@@ -53,23 +48,13 @@ fn rows_of(values: u64, n: u64) -> Rows
 
 // Every value of rows 0 to 2, known or with one bit X.
 fn each_start(locked: u64, first: u64, second: u64) -> Tally {
-    let mut tally = none();
-    let mut n: u64 = 0;
-    while n < 448 {
-        let rows = rows_of(n % 64, n / 64);
-        tally = joined(tally, both_bits(rows, locked, first, second));
-        n += 1;
-    }
-    tally
+    each(
+        448,
+        |n| both_bits(rows_of(n % 64, n / 64), locked, first, second),
+    )
 }
 
 // Every lock of rows 0 to 2 and every two kinds: the bits tried, and those where they disagree.
 pub fn resets() -> Tally {
-    let mut tally = none();
-    let mut n: u64 = 0;
-    while n < 512 {
-        tally = joined(tally, each_start(n / 64, kind(n), kind(n / 8)));
-        n += 1;
-    }
-    tally
+    each(512, |n| each_start(n / 64, kind(n), kind(n / 8)))
 }

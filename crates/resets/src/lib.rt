@@ -3,17 +3,18 @@
 
 ghost use Rattle.std.specs.Prelude.{◌≡◌, ℕ};
 ghost use Rattle.checks.specs.Check.{done};
-ghost use Rattle.checks.specs.Model.{lent, verdict_model, judged};
+ghost use Rattle.checks.specs.Model.{answer_model, in_table, judged, lent, verdict_model};
 ghost use Rattle.steps.specs.States.{held};
-ghost use Rattle.steps.specs.Encoding.{OwnRows, RoomFor};
+ghost use Rattle.steps.specs.Encoding.{OwnRows};
 ghost use Rattle.conclusions.specs.Encoding.{Named};
 ghost use Rattle.conclusions.specs.Reset.{conclusion, naming_checks, reset_of, RestsOn};
-ghost use Rattle.resets.specs.Model.{reset_model, reset_ran};
+ghost use Rattle.resets.specs.Model.{reset_ran};
 
-use bits::wide;
+use checks::Verdict;
 use checks::limits::ROW_LIMIT;
+use checks::refusals::{Reason, Refusal};
 use checks::rows::check_bit;
-use checks::{Refusal, Verdict, refusals};
+use checks::table::Table;
 use conclusions::{Conclusion, bit_at};
 use operations::RECORD_WORDS;
 use reset_search::pass;
@@ -21,42 +22,13 @@ use steps::copy_rows;
 use table_checks::{check_row_named, check_run};
 use tables::stepping::step_all;
 
-// The value of the bit, or a refusal.
-#[derive(Clone, Copy)]
-pub enum ResetAnswer {
-    Value(u32),
-    Refused(Refusal),
-}
-
 // What run refuses of all records, then 7 and 15 for the row and bit named.
-fn check_naming(
-    width: &[u8],
-    lock: &[u8],
-    mask: &[u32],
-    value: &[u32],
-    words: &[u32],
-    row: usize,
-    bit: u32,
-) -> Verdict
-    ensures { let table = lent width.now lock.now mask.now value.now words.now in
-        verdict_model result ≡ judged (naming_checks table row bit) }
+fn check_naming(t: Table, row: usize, bit: u32) -> Verdict
+    ensures { verdict_model result ≡ judged (naming_checks (in_table t.entry) row bit) }
 {
-    let last = words.len() / RECORD_WORDS;
-    let found = check_run(width, lock, mask, value, words, 0, last);
-    match found {
-        Verdict::Refused(_) => {
-            return found;
-        }
-        Verdict::Passed => {}
-    }
-    let named = check_row_named(width, row);
-    match named {
-        Verdict::Refused(_) => {
-            return named;
-        }
-        Verdict::Passed => {}
-    }
-    check_bit(wide(width[row]), bit, 0)
+    check_run(t, 0, t.words.len() / RECORD_WORDS)?;
+    check_row_named(t.width, row)?;
+    check_bit(t.width[row] as u32, bit, 0)
 }
 
 // The pass for the bit named, with rows for trials. The lent rows are written once the bit is known to end known.
@@ -70,7 +42,7 @@ fn reset_with(
     bit: u32,
     tmask: &mut [u32],
     tvalue: &mut [u32],
-) -> ResetAnswer
+) -> Result<u32, Refusal>
     requires { Named (lent width.now lock.now mask.old value.old words.now) row bit × OwnRows width.now tmask.old tvalue.old }
     ensures { let table = lent width.now lock.now mask.old value.old words.now in
         reset_ran result mask.new value.new ≡ reset_of table row bit }
@@ -78,49 +50,19 @@ fn reset_with(
     copy_rows(mask, value, tmask, tvalue);
     step_all(width, tmask, tvalue, words);
     if bit_at(tmask[row], bit) != 0 {
-        return ResetAnswer::Refused(Refusal {
-            number: refusals::UNKNOWN,
+        return Err(Refusal {
+            reason: Reason::Unknown,
             place: 0,
         });
     }
     let ends = bit_at(tvalue[row], bit);
     let c = Conclusion {
-        row: row,
+        row,
         at: bit,
         value: ends,
     };
     pass(width, lock, mask, value, words, tmask, tvalue, c);
-    ResetAnswer::Value(ends)
-}
-
-// The same with room for the trial rows.
-fn reset_in(
-    width: &[u8],
-    lock: &[u8],
-    mask: &mut [u32],
-    value: &mut [u32],
-    words: &[u32],
-    row: usize,
-    bit: u32,
-    rmask: &mut [u32],
-    rvalue: &mut [u32],
-) -> ResetAnswer
-    requires { Named (lent width.now lock.now mask.old value.old words.now) row bit × RoomFor width.now rmask.old rvalue.old }
-    ensures { let table = lent width.now lock.now mask.old value.old words.now in
-        reset_ran result mask.new value.new ≡ reset_of table row bit }
-{
-    let n = width.len();
-    reset_with(
-        width,
-        lock,
-        mask,
-        value,
-        words,
-        row,
-        bit,
-        &mut rmask[..n],
-        &mut rvalue[..n],
-    )
+    Ok(ends)
 }
 
 // Which start bits a conclusion rests on: of a row and a bit that a full run leaves known, the known bits of open rows are visited, rows rising, bits rising, and
@@ -133,22 +75,25 @@ pub fn reset_bits(
     words: &[u32],
     row: usize,
     bit: u32,
-) -> ResetAnswer
+) -> Result<u32, Refusal>
     ensures effect { let table = lent width.now lock.now mask.old value.old words.now in
         reset_ran result mask.new value.new ≡ reset_of table row bit }
     ensures rests { let table = lent width.now lock.now mask.old value.old words.now in
-        ((b : ℕ) → reset_model result ≡ done b → RestsOn table (conclusion row bit b) (held mask.new value.new)) }
+        ((b : ℕ) → answer_model result ≡ done b → RestsOn table (conclusion row bit b) (held mask.new value.new)) }
 {
-    match check_naming(width, lock, mask, value, words, row, bit) {
-        Verdict::Refused(r) => {
-            return ResetAnswer::Refused(r);
-        }
-        Verdict::Passed => {}
-    }
-    // What the room holds at first is never read. A constant there would be compiled to a call of a function that is not the library's.
-    let mut rmask = [bit; ROW_LIMIT];
-    let mut rvalue = [bit; ROW_LIMIT];
-    reset_in(
+    let table = Table {
+        width,
+        lock,
+        mask,
+        value,
+        words,
+    };
+    check_naming(table, row, bit)?;
+    // Room for the trial rows. What it holds at first is never read.
+    let mut rmask = [0u32; ROW_LIMIT];
+    let mut rvalue = [0u32; ROW_LIMIT];
+    let n = width.len();
+    reset_with(
         width,
         lock,
         mask,
@@ -156,7 +101,7 @@ pub fn reset_bits(
         words,
         row,
         bit,
-        &mut rmask,
-        &mut rvalue,
+        &mut rmask[..n],
+        &mut rvalue[..n],
     )
 }

@@ -7,18 +7,18 @@ use native.Mathlib.Omega.{arith}
 use lib.Dec.{eqb}
 use Rattle.checks.specs.Check.{Answer, done, refused, verdict}
 use Rattle.checks.specs.Table.{State, Table, start_of}
+use Rattle.checks.specs.Model.{answer_model}
 use Rattle.tables.specs.Run.{full_run}
 use Rattle.steps.specs.States.{held}
 use Rattle.checks.proofs.Leaving.{leaving-answer}
 use Rattle.orders.specs.declared.Order.{Order}
 use Rattle.orders.specs.declared.Order.TheVariants.{Equal, Inside, Around, NoneOfThese}
-use Rattle.orders.specs.declared.CompareAnswer.{CompareAnswer}
 use Rattle.orders.specs.Order.{compare_of, OrderMeans}
-use Rattle.orders.specs.Model.{compare_model}
 use Rattle.rounds.specs.Clock.{pairs_of, rounds_of, last_start}
 use Rattle.rounds.specs.Settle.{settle_checks, settle_of, Settles}
-use Rattle.clocks.specs.declared.SettleAnswer.{SettleAnswer}
-use Rattle.clocks.specs.Model.{settle_model, settled}
+use Rattle.std.specs.Prelude.{Result}
+use Rattle.checks.specs.declared.refusals.Refusal.{Refusal}
+use Rattle.clocks.specs.Model.{settled}
 use Rattle.rifflerleek.specs.declared.Answer.{Answer as HostAnswer}
 use Rattle.rifflerleek.specs.Host.{number_answer, order_number, order_answer, outcome, host_leaves}
 use Rattle.rifflerleek.proofs.Numbered.{settle-refused, compare-refused}
@@ -29,12 +29,12 @@ module _ (t : Table) (ss ns : List ℕ) where
   unfolding settle_of
   numbered n j e = settle-refused t ss ns n j (sym (leaving-answer (start_of t) (full_run t (last_start t (pairs_of ss ns))) (verdict (settle_checks t ss ns) (rounds_of t (pairs_of ss ns)))) ∙ e)
 
-  -- r: the call's answer, found to be s; h: what the host is handed for it
-  pub settle-hosted : (r s : SettleAnswer) (h : HostAnswer) (masks values : List ℕ) → r ≡ s → h ≡ number_answer (settle_model s)
-      → (settled r masks values ≡ settle_of t ss ns) × ((n : ℕ) → settle_model r ≡ done n → Settles t (pairs_of ss ns) n (held masks values))
+  -- r: the call's answer; h: what the host is handed for it
+  pub settle-hosted : (r : Result ℕ Refusal) (h : HostAnswer) (masks values : List ℕ) → h ≡ number_answer (answer_model r)
+      → (settled r masks values ≡ settle_of t ss ns) × ((n : ℕ) → answer_model r ≡ done n → Settles t (pairs_of ss ns) n (held masks values))
       → (outcome h (held masks values) ≡ host_leaves (settle_of t ss ns)) × (h.refusal ≡ 0 → Settles t (pairs_of ss ns) h.result (held masks values))
-  settle-hosted r s h masks values g e f =
-      claims-hosted (settle_of t ss ns) numbered (Settles t (pairs_of ss ns)) (settle_model r) h (held masks values) (e ∙ ap (λ (x : SettleAnswer). number_answer (settle_model x)) (sym g)) f
+  settle-hosted r h masks values e f =
+      claims-hosted (settle_of t ss ns) numbered (Settles t (pairs_of ss ns)) (answer_model r) h (held masks values) e f
 
 -- ---- compare_states
 
@@ -53,11 +53,11 @@ module _ (widths : List ℕ) (p q : State) where
   told-order (done u) e o z n = ap (λ (x : Order). done x) (sym (order-told u) ∙ ap order_at n ∙ order-told o)
   told-order (refused n j) e o z r = absurd (let h = compare-refused widths p q n j (sym e) in omega arith)
 
-  pub compare-hosted : (r s : CompareAnswer) (h : HostAnswer) → r ≡ s → h ≡ order_answer (compare_model s)
-      → (compare_model r ≡ compare_of widths p q) × ((o : Order) → compare_model r ≡ done o → OrderMeans widths p q o)
+  pub compare-hosted : (r s : Result Order Refusal) (h : HostAnswer) → r ≡ s → h ≡ order_answer (answer_model s)
+      → (answer_model r ≡ compare_of widths p q) × ((o : Order) → answer_model r ≡ done o → OrderMeans widths p q o)
       → (h ≡ order_answer (compare_of widths p q)) × ((o : Order) → h.refusal ≡ 0 → h.result ≡ order_number o → OrderMeans widths p q o)
   compare-hosted r s h g e f =
-      let m = e ∙ ap (λ (x : CompareAnswer). order_answer (compare_model x)) (sym g) in (
+      let m = e ∙ ap (λ (x : Result Order Refusal). order_answer (answer_model x)) (sym g) in (
         m ∙ ap order_answer f.0,
-        (λ o z n. f.1 o (told-order (compare_model r) f.0 o (ap (λ (a : HostAnswer). a.refusal) (sym m) ∙ z) (ap (λ (a : HostAnswer). a.result) (sym m) ∙ n))),
+        (λ o z n. f.1 o (told-order (answer_model r) f.0 o (ap (λ (a : HostAnswer). a.refusal) (sym m) ∙ z) (ap (λ (a : HostAnswer). a.result) (sym m) ∙ n))),
       )

@@ -5,13 +5,15 @@ use Prim.Native.Nat.{ℕ, ◌-◌}
 use Rattle.checks.specs.Check.{Answer, done, verdict}
 use Rattle.checks.specs.Checks.{run_checks}
 use Rattle.checks.specs.Table.{Table, start_of}
+use Rattle.checks.specs.Model.{answer_model}
 use Rattle.checks.proofs.Verdicts.{passed-of-done, done-of-passed}
 use Rattle.steps.specs.Step.{after}
 use Rattle.tables.specs.Known.{Demand2}
 use Rattle.tables.specs.Demand.{Demand3}
 use Rattle.tables.specs.Run.{program_of, Ran, run_of}
-use Rattle.tables.specs.declared.RunAnswer.{RunAnswer}
-use Rattle.tables.specs.Model.{run_model, ran}
+use Rattle.std.specs.Prelude.{Result}
+use Rattle.checks.specs.declared.refusals.Refusal.{Refusal}
+use Rattle.tables.specs.Model.{ran}
 use Rattle.steps.specs.States.{held}
 use Rattle.checks.proofs.Leaving.{leaving-answer}
 use Rattle.tables.proofs.RunLaws.{Meets}
@@ -36,14 +38,13 @@ module _ (t : Table) (first last : ℕ) where
       let d = told-done (run_of t first last) (λ n i r. run-refused t first last n i (sym run-answer ∙ r)) a e z in
       d ∙ done-last (number_answer a).result (sym e ∙ d)
 
-  -- r: run's answer, found to be s; h: what the host is handed for it
-  pub run-hosted : (r s : RunAnswer) (h : HostAnswer) (masks values : List ℕ) → r ≡ s → h ≡ number_answer (run_model s) → Meets t first last (ran r masks values)
+  -- r: run's answer; h: what the host is handed for it
+  pub run-hosted : (r : Result ℕ Refusal) (h : HostAnswer) (masks values : List ℕ) → h ≡ number_answer (answer_model r) → Meets t first last (ran r masks values)
       → (outcome h (held masks values) ≡ host_leaves (run_of t first last))
       × ((h.refusal ≡ 0 → Demand2 t first last (held masks values)) × (h.refusal ≡ 0 → Demand3 t first last (held masks values)))
-  run-hosted r s h masks values g e f =
-      let k = ap (λ (x : RunAnswer). ran x masks values) (sym g) ∙ f.0 in
-      let is-done : h.refusal ≡ 0 → run_model r ≡ done last =
-      λ z. ap run_model g ∙ zero-done (run_model s) (ap (λ (x : Ran). x.answer) k) (ap (λ (a : HostAnswer). a.refusal) (sym e) ∙ z) in (
-        ap (λ (a : HostAnswer). outcome a (held masks values)) e ∙ ap host_leaves k,
+  run-hosted r h masks values e f =
+      let is-done : h.refusal ≡ 0 → answer_model r ≡ done last =
+      λ z. zero-done (answer_model r) (ap (λ (x : Ran). x.answer) f.0) (ap (λ (a : HostAnswer). a.refusal) (sym e) ∙ z) in (
+        ap (λ (a : HostAnswer). outcome a (held masks values)) e ∙ ap host_leaves f.0,
         (λ z. f.1.0 (is-done z), λ z. f.1.1 (is-done z)),
       )

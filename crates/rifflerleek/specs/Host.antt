@@ -16,7 +16,7 @@ use Rattle.witness_search.specs.declared.Pair.{Pair}
 use Rattle.range_search.specs.declared.Range.{Range}
 use Rattle.checks.specs.Check.{Answer, done, refused, Leaves}
 use Rattle.checks.specs.Table.{Table}
-use Rattle.tables.specs.Run.{Count}
+use Rattle.tables.specs.declared.Counted.{Counted}
 use Rattle.grammar.specs.Cut.{Ends}
 use Rattle.texts.specs.Calls.{Counts, ReadBack}
 use Rattle.orders.specs.declared.Order.{Order}
@@ -35,7 +35,7 @@ number_answer (done n) = host_result n 0
 number_answer (refused number place) = host_refusal number place
 
 -- "the unknown bits u of a row, and 2^u"
-abbrev pub count_answer : Answer Count → HostAnswer
+abbrev pub count_answer : Answer Counted → HostAnswer
 count_answer (done c) = host_result c.unknown c.choices
 count_answer (refused number place) = host_refusal number place
 

@@ -2,7 +2,7 @@
 #![tactic(auto)]
 
 ghost use Rattle.std.specs.Prelude.{◌≡◌, []};
-ghost use Rattle.checks.specs.Model.{lent};
+ghost use Rattle.checks.specs.Model.{answer_model, lent, reason_number};
 ghost use Rattle.tables.specs.Known.{Demand2};
 ghost use Rattle.tables.specs.Demand.{Demand3};
 ghost use Rattle.steps.specs.States.{held};
@@ -11,11 +11,10 @@ ghost use Rattle.grammar.specs.Cut.{field_ends};
 ghost use Rattle.texts.specs.Calls.{size_of, write_of, read_of};
 ghost use Rattle.rifflerleek.specs.Host.{host_result, host_refusal, number_answer, count_answer, ends_answer, outcome, host_leaves, host_read};
 
-use checks::Refusal;
+use checks::refusals::Refusal;
+use checks::table::Table;
 use grammar::{LF, TAB};
 use lines::cut::{part, start_of};
-use tables::{CountAnswer, RunAnswer};
-use texts::{BytesAnswer, ReadAnswer};
 
 mod prune_exports; // prune_exports.rt: the records that marked rows rest on
 mod reset_exports; // reset_exports.rt: which reset bits a conclusion rests on
@@ -68,13 +67,25 @@ fn done(res: usize, second: u64) -> Answer
 
 // A refusal.
 fn refused(why: Refusal) -> Answer
-    ensures { result ≡ host_refusal why.number why.place }
+    ensures { result ≡ host_refusal (reason_number why.reason) why.place }
 {
     Answer {
-        refusal: why.number,
+        refusal: why.reason.number(),
         place: why.place,
         result: 0,
         second_result: 0,
+    }
+}
+
+// A result of one number, or a refusal.
+impl From<Result<usize, Refusal>> for Answer {
+    ghost from_gives = { λ found told. told ≡ number_answer (answer_model found) };
+
+    fn from(found: Result<usize, Refusal>) -> Answer {
+        match found {
+            Ok(n) => done(n, 0),
+            Err(r) => refused(r),
+        }
     }
 }
 
@@ -95,10 +106,7 @@ pub fn rifflerleek_run(
     ensures demand3 { let table = lent width.now lock.now mask.old value.old words.now in
         (result.refusal ≡ 0 → Demand3 table first last (held mask.new value.new)) }
 {
-    match tables::run(width, lock, mask, value, words, first, last) {
-        RunAnswer::Done(n) => done(n, 0),
-        RunAnswer::Refused(r) => refused(r),
-    }
+    Answer::from(tables::run(width, lock, mask, value, words, first, last))
 }
 
 // Counts the unknown bits u of a row: `result` of the answer is u, `second_result` is 2^u.
@@ -111,9 +119,16 @@ pub fn rifflerleek_count(
 ) -> Answer
     ensures { result ≡ count_answer (count_of (lent width.now lock.now mask.now value.now []) row) }
 {
-    match tables::count(width, lock, mask, value, row) {
-        CountAnswer::Counted(u, choices) => done(u as usize, choices),
-        CountAnswer::Refused(r) => refused(r),
+    let table = Table {
+        width,
+        lock,
+        mask,
+        value,
+        words: &[],
+    };
+    match tables::count(table, row) {
+        Ok(c) => done(c.unknown as usize, c.choices),
+        Err(r) => refused(r),
     }
 }
 
@@ -128,10 +143,14 @@ pub fn rifflerleek_size(
     ensures { let table = lent width.now lock.now mask.now value.now words.now in
         result ≡ number_answer (size_of table) }
 {
-    match texts::size(width, lock, mask, value, words) {
-        BytesAnswer::Bytes(n) => done(n, 0),
-        BytesAnswer::Refused(r) => refused(r),
-    }
+    let table = Table {
+        width,
+        lock,
+        mask,
+        value,
+        words,
+    };
+    Answer::from(texts::size(table))
 }
 
 // Writes the table's text into the lent buffer: `result` of the answer is its byte count.
@@ -146,10 +165,14 @@ pub fn rifflerleek_write(
     ensures { let table = lent width.now lock.now mask.now value.now words.now in
         outcome result out.new ≡ host_leaves (write_of table out.old) }
 {
-    match texts::write(width, lock, mask, value, words, out) {
-        BytesAnswer::Bytes(n) => done(n, 0),
-        BytesAnswer::Refused(r) => refused(r),
-    }
+    let table = Table {
+        width,
+        lock,
+        mask,
+        value,
+        words,
+    };
+    Answer::from(texts::write(table, out))
 }
 
 // Reads a text into the lent slices: `result` of the answer is the number of rows, `second_result` that of records.
@@ -166,8 +189,8 @@ pub fn rifflerleek_read(
         outcome result left ≡ host_read (read_of text.now table) }
 {
     match texts::read(text, width, lock, mask, value, words) {
-        ReadAnswer::Read(rows, records) => done(rows, records as u64),
-        ReadAnswer::Refused(r) => refused(r),
+        Ok(found) => done(found.rows, found.records as u64),
+        Err(r) => refused(r),
     }
 }
 

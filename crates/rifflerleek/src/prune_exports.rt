@@ -4,8 +4,7 @@ ghost use Rattle.checks.specs.Model.{lent};
 ghost use Rattle.needs.specs.Prune.{prune_of, shortened, KeepsMarked};
 ghost use Rattle.rifflerleek.specs.Host.{outcome, host_leaves};
 
-use crate::{Answer, done, refused};
-use pruning::PruneAnswer;
+use crate::Answer;
 
 // Leaves the records that the marked rows rest on at the start of the words, and zeros after them: `result` of the answer is their number.
 pub fn rifflerleek_prune(
@@ -21,8 +20,5 @@ pub fn rifflerleek_prune(
     ensures keeps { let table = lent width.now lock.now mask.now value.now words.old in
         (result.refusal ≡ 0 → KeepsMarked table marks.now result.result (shortened table result.result words.new)) }
 {
-    match pruning::prune(width, lock, mask, value, words, marks) {
-        PruneAnswer::Records(n) => done(n, 0),
-        PruneAnswer::Refused(r) => refused(r),
-    }
+    Answer::from(pruning::prune(width, lock, mask, value, words, marks))
 }

@@ -6,7 +6,6 @@ ghost use Rattle.conclusions.specs.Reset.{conclusion, reset_of, RestsOn};
 ghost use Rattle.rifflerleek.specs.Host.{outcome, host_leaves};
 
 use crate::{Answer, done, refused};
-use resets::ResetAnswer;
 
 // Leaves the rows with the start vectors on which the bit named rests: `result` of the answer is the bit's value.
 pub fn rifflerleek_reset_bits(
@@ -24,7 +23,7 @@ pub fn rifflerleek_reset_bits(
         (result.refusal ≡ 0 → RestsOn table (conclusion row bit result.result) (held mask.new value.new)) }
 {
     match resets::reset_bits(width, lock, mask, value, words, row, bit) {
-        ResetAnswer::Value(b) => done(b as usize, 0),
-        ResetAnswer::Refused(r) => refused(r),
+        Ok(b) => done(b as usize, 0),
+        Err(r) => refused(r),
     }
 }

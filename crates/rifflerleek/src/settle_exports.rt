@@ -9,8 +9,7 @@ ghost use Rattle.rounds.specs.Settle.{settle_of, Settles};
 ghost use Rattle.rifflerleek.specs.Host.{outcome, host_leaves, order_number, order_answer};
 
 use crate::{Answer, ORDER_AROUND, ORDER_EQUAL, ORDER_INSIDE, ORDER_NONE, done, refused};
-use clocks::SettleAnswer;
-use orders::{CompareAnswer, Order};
+use orders::Order;
 
 // Leaves the rows as the last round leaves them: `result` of the answer is the number of rounds.
 pub fn rifflerleek_settle(
@@ -28,10 +27,7 @@ pub fn rifflerleek_settle(
         let pairs = pairs_of states.now nexts.now in
         (result.refusal ≡ 0 → Settles table pairs result.result (held mask.new value.new)) }
 {
-    match clocks::settle(width, lock, mask, value, words, states, nexts) {
-        SettleAnswer::Rounds(n) => done(n, 0),
-        SettleAnswer::Refused(r) => refused(r),
-    }
+    Answer::from(clocks::settle(width, lock, mask, value, words, states, nexts))
 }
 
 // An order as a number.
@@ -62,7 +58,7 @@ pub fn rifflerleek_compare_states(
         ((o : Order) → result.refusal ≡ 0 → result.result ≡ order_number o → OrderMeans width.now first second o) }
 {
     match orders::compare_states(width, mask_1, value_1, mask_2, value_2) {
-        CompareAnswer::Ordered(o) => done(order_number(o), 0),
-        CompareAnswer::Refused(r) => refused(r),
+        Ok(o) => done(order_number(o), 0),
+        Err(r) => refused(r),
     }
 }

@@ -2,7 +2,7 @@
 ghost use Rattle.std.specs.Prelude.{◌≡◌, ◌↔◌};
 ghost use Rattle.vectors.specs.Row.{row};
 ghost use Rattle.range_search.specs.Range.{Ranged};
-ghost use Rattle.checks.specs.Model.{judged};
+ghost use Rattle.checks.specs.Model.{judged, reason_number};
 ghost use Rattle.vector_calls.specs.Calls.{product_bit_of};
 ghost use Rattle.vector_calls.specs.Witnesses.{witness_checks, Unsettles};
 ghost use Rattle.vector_calls.specs.Ranges.{range_of, Absent};
@@ -10,8 +10,7 @@ ghost use Rattle.vector_calls.specs.RangeRuns.{RunsOn};
 ghost use Rattle.rifflerleek.specs.Host.{bit_number, bit_answer, four_refusal, FourAnswers, pair_of, range_answer, range_held};
 
 use crate::{Answer, DONE, UNKNOWN_BIT, done, refused};
-use checks::Refusal;
-use vector_calls::{BitAnswer, RangeAnswer, WitnessAnswer};
+use checks::refusals::Refusal;
 use vectors::OutputBit;
 
 // A bit as a number: 0, 1, or that of X.
@@ -37,8 +36,8 @@ pub fn rifflerleek_product_bit(
     ensures { result ≡ bit_answer (product_bit_of width mask_a value_a mask_b value_b bit) }
 {
     match vector_calls::product_bit(width, mask_a, value_a, mask_b, value_b, bit) {
-        BitAnswer::Bit(b) => done(bit_number(b), 0),
-        BitAnswer::Refused(r) => refused(r),
+        Ok(b) => done(bit_number(b), 0),
+        Err(r) => refused(r),
     }
 }
 
@@ -56,10 +55,10 @@ pub struct FourNumbers {
 
 // A refusal of such a call.
 fn no_numbers(why: Refusal) -> FourNumbers
-    ensures { result ≡ four_refusal why.number why.place }
+    ensures { result ≡ four_refusal (reason_number why.reason) why.place }
 {
     FourNumbers {
-        refusal: why.number,
+        refusal: why.reason.number(),
         place: why.place,
         first: 0,
         second: 0,
@@ -83,7 +82,7 @@ pub fn rifflerleek_witnesses(
     ensures pairs { result.refusal ≡ 0 → Unsettles kind width mask_a value_a mask_b value_b bit (pair_of result.first result.second) (pair_of result.third result.fourth) }
 {
     match vector_calls::witnesses(kind, width, mask_a, value_a, mask_b, value_b, bit) {
-        WitnessAnswer::Pairs(zero, one) => FourNumbers {
+        Ok((zero, one)) => FourNumbers {
             refusal: DONE,
             place: 0,
             first: zero.a,
@@ -91,7 +90,7 @@ pub fn rifflerleek_witnesses(
             third: one.a,
             fourth: one.b,
         },
-        WitnessAnswer::Refused(r) => no_numbers(r),
+        Err(r) => no_numbers(r),
     }
 }
 
@@ -104,7 +103,7 @@ pub fn rifflerleek_range(width: u32, mask: u32, value: u32, low: u64, high: u64)
     ensures runs { result.refusal ≡ 0 → RunsOn (row width mask value) low high (row width result.first result.second) }
 {
     match vector_calls::range(width, mask, value, low, high) {
-        RangeAnswer::Found(x) => FourNumbers {
+        Ok(x) => FourNumbers {
             refusal: DONE,
             place: 0,
             first: x.mask,
@@ -112,6 +111,6 @@ pub fn rifflerleek_range(width: u32, mask: u32, value: u32, low: u64, high: u64)
             third: x.smallest,
             fourth: x.largest,
         },
-        RangeAnswer::Refused(r) => no_numbers(r),
+        Err(r) => no_numbers(r),
     }
 }

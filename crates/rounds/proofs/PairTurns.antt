@@ -21,7 +21,7 @@ use Rattle.checks.specs.Table.{State, row_at}
 use Rattle.steps.specs.Step.{put, put_all}
 use Rattle.steps.proofs.Put.{row_other}
 use Rattle.orders.specs.Order.{equal_row}
-use Rattle.rounds.specs.Clock.{Pair, pair, pair_at, pairs_of, widened, widen, unchanged}
+use Rattle.rounds.specs.Clock.{Pair, pair_at, pairs_of, widened, widen, unchanged}
 use Rattle.rounds.specs.Encoding.{PairsReady}
 
 module _ (widths ss ns : List ℕ) (ran s : State) where
@@ -70,10 +70,10 @@ module _ (widths ss ns : List ℕ) (ran s₀ : State) where
       let e : length ss - i ≡ suc (length ss - (i + 1)) = omega arith in
       ap (listed (pair_at ss ns) i) e ∙ ap {B = List Pair} (λ (j : ℕ). pair_at ss ns i ∷ listed (pair_at ss ns) j (length ss - (i + 1))) (sym (add-one i))
 
-  -- one turn, in the code's terms: x and y are the rows of pair i
-  pub pairs-step : (n : ℕ) → PairsReady n ss ns → (i : ℕ) (s s' : State) (x y : ℕ) → i < length ss → PairsFrom i s → x ≡ get_or ss i 0 → y ≡ get_or ns i 0
-      → s' ≡ put s x (widened widths ran s (pair x y)) → PairsFrom (i + 1) s'
-  pairs-step n R i s s' x y h P ex ey es =
+  -- one turn
+  pub pairs-step : (n : ℕ) → PairsReady n ss ns → (i : ℕ) (s s' : State) → i < length ss → PairsFrom i s
+      → s' ≡ put s (get_or ss i 0) (widened widths ran s (pair_at ss ns i)) → PairsFrom (i + 1) s'
+  pairs-step n R i s s' h P es =
       record {
         rows_are = P.rows_are ∙ ap (λ (l : List Pair). put_all (λ p. p.state) (widened widths ran s₀) l s) (rest-step i h) ∙ ap (widen_rest (i + 1)) (sym put_is);
         ahead = λ j l u.
@@ -85,7 +85,6 @@ module _ (widths ss ns : List ℕ) (ran s₀ : State) where
       put_is : s' ≡ put s (get_or ss i 0) (widened widths ran s₀ (pair_at ss ns i))
       put_is =
           es
-          ∙ (λ ι. put s (ex ι) (widened widths ran s (pair (ex ι) (ey ι))))
           ∙ ap (λ (r : Row). put s (get_or ss i 0) (join r (row_at widths ran (get_or ns i 0)))) (P.ahead i (omega arith) h)
 
   pub pairs_end : (i : ℕ) (s : State) → length ss ≤ i → PairsFrom i s → s ≡ widen widths (pairs_of ss ns) ran s₀

@@ -9,9 +9,9 @@ ghost use Rattle.orders.specs.Order.{equal_row};
 ghost use Rattle.rounds.specs.Clock.{pair, pairs_of, widened, widen, unchanged};
 ghost use Rattle.rounds.specs.Encoding.{WidenReady};
 
-use bits::index;
 use lookups::join_if;
 use orders::rows::inside_row;
+use vectors::Vector;
 
 // Whether widening would leave a state row as it is: its next row, as the run left it, lies inside it.
 fn row_still(mask: &[u32], value: &[u32], smask: &[u32], svalue: &[u32], s: usize, n: usize) -> bool
@@ -20,7 +20,15 @@ fn row_still(mask: &[u32], value: &[u32], smask: &[u32], svalue: &[u32], s: usiz
         let start = held smask.now svalue.now in
         ((widths : List ℕ) → result ≡ equal_row (widened widths ran start (pair s n)) (row_at widths start s)) }
 {
-    inside_row(mask[n], value[n], smask[s], svalue[s])
+    let next = Vector {
+        mask: mask[n],
+        value: value[n],
+    };
+    let state = Vector {
+        mask: smask[s],
+        value: svalue[s],
+    };
+    inside_row(next, state)
 }
 
 // Whether widening would leave every state row as it is.
@@ -37,19 +45,17 @@ pub fn rows_still(
         let start = held smask.now svalue.now in
         ((widths : List ℕ) → result ≡ unchanged widths (pairs_of states.now nexts.now) ran start) }
 {
-    let mut i: usize = 0;
-    while i < states.len() {
+    for i in 0..states.len() {
         if !row_still(
             mask,
             value,
             smask,
             svalue,
-            index(states[i]),
-            index(nexts[i]),
+            states[i] as usize,
+            nexts[i] as usize,
         ) {
             return false;
         }
-        i += 1;
     }
     true
 }
@@ -61,7 +67,15 @@ fn widen_row(mask: &[u32], value: &[u32], smask: &mut [u32], svalue: &mut [u32],
         let start = held smask.old svalue.old in
         ((widths : List ℕ) → held smask.new svalue.new ≡ put start s (widened widths ran start (pair s n))) }
 {
-    let joined = join_if(true, smask[s], svalue[s], mask[n], value[n]);
+    let next = Vector {
+        mask: mask[n],
+        value: value[n],
+    };
+    let state = Vector {
+        mask: smask[s],
+        value: svalue[s],
+    };
+    let joined = join_if(true, state, next);
     smask[s] = joined.mask;
     svalue[s] = joined.value;
 }
@@ -80,16 +94,14 @@ pub fn widen_rows(
         let start = held smask.old svalue.old in
         ((widths : List ℕ) → held smask.new svalue.new ≡ widen widths (pairs_of states.now nexts.now) ran start) }
 {
-    let mut i: usize = 0;
-    while i < states.len() {
+    for i in 0..states.len() {
         widen_row(
             mask,
             value,
             smask,
             svalue,
-            index(states[i]),
-            index(nexts[i]),
+            states[i] as usize,
+            nexts[i] as usize,
         );
-        i += 1;
     }
 }

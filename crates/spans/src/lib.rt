@@ -11,12 +11,10 @@ pub fn span_fits(width: &[u8], base: usize, n: usize, w: u8) -> bool
     requires { base + n ≤ length width.now }
     ensures { result ≡ all_of (λ i. eqb w (width_at width.now i)) (span base n) }
 {
-    let mut i: usize = 0;
-    while i < n {
+    for i in 0..n {
         if w != width[base + i] {
             return false;
         }
-        i += 1;
     }
     true
 }
@@ -26,12 +24,10 @@ pub fn span_marked(marks: &[u8], base: usize, n: usize) -> bool
     requires { base + n ≤ length marks.now }
     ensures { result ≡ some_of (λ i. eqb (get_or marks.now i 0) 1) (span base n) }
 {
-    let mut i: usize = 0;
-    while i < n {
+    for i in 0..n {
         if marks[base + i] == 1 {
             return true;
         }
-        i += 1;
     }
     false
 }

@@ -11,11 +11,9 @@ pub fn copy_rows(mask: &[u32], value: &[u32], tmask: &mut [u32], tvalue: &mut [u
     requires { Copyable (held mask.now value.now) tmask.old tvalue.old }
     ensures { held tmask.new tvalue.new ≡ held mask.now value.now }
 {
-    let mut i: usize = 0;
-    while i < mask.len() {
+    for i in 0..mask.len() {
         let shared = mask[i] & value[i];
         tmask[i] = mask[i] ^ shared;
         tvalue[i] = value[i] ^ shared;
-        i += 1;
     }
 }

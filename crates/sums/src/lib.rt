@@ -4,7 +4,7 @@
 
 ghost use Rattle.std.specs.Prelude.{◌≡◌, ◌-◌, ◌%◌, ◌^◌, ◌≤◌, [], ◌∷◌, bit_and, bit_or, bit_xor};
 ghost use Rattle.bits.specs.Limits.{width_limit};
-ghost use Rattle.vectors.specs.Row.{row};
+ghost use Rattle.vectors.specs.Row.{row_of};
 ghost use Rattle.operations.specs.Arithmetic.{op_add, op_sub, op_neg};
 ghost use Rattle.operations.specs.Result.{result_of, Ready};
 
@@ -19,37 +19,37 @@ fn from_extremes(w: u32, unknown: u32, least: u32, greatest: u32) -> Vector
     let ones = width_mask(w);
     let mask = (unknown | (least ^ greatest)) & ones;
     Vector {
-        mask: mask,
+        mask,
         value: least & (!mask & ones),
     }
 }
 
 // a + b modulo 2^w. The least operands are the values, the greatest have every unknown bit set.
-pub fn add(w: u32, ma: u32, va: u32, mb: u32, vb: u32) -> Vector
-    requires { (w ≤ width_limit) × Ready op_add w 0 (row w ma va ∷ row w mb vb ∷ []) }
-    ensures { row w result.mask result.value ≡ result_of op_add w 0 (row w ma va ∷ row w mb vb ∷ []) }
+pub fn add(w: u32, a: Vector, b: Vector) -> Vector
+    requires { (w ≤ width_limit) × Ready op_add w 0 (row_of w a ∷ row_of w b ∷ []) }
+    ensures { row_of w result ≡ result_of op_add w 0 (row_of w a ∷ row_of w b ∷ []) }
 {
-    let least = std::num::wrapping_add_u32(va, vb);
-    let greatest = std::num::wrapping_add_u32(va | ma, vb | mb);
-    from_extremes(w, ma | mb, least, greatest)
+    let least = a.value.wrapping_add(b.value);
+    let greatest = (a.value | a.mask).wrapping_add(b.value | b.mask);
+    from_extremes(w, a.mask | b.mask, least, greatest)
 }
 
 // a - b modulo 2^w. The extremes cross: the least difference takes the greatest b, the greatest difference the least b.
-pub fn sub(w: u32, ma: u32, va: u32, mb: u32, vb: u32) -> Vector
-    requires { (w ≤ width_limit) × Ready op_sub w 0 (row w ma va ∷ row w mb vb ∷ []) }
-    ensures { row w result.mask result.value ≡ result_of op_sub w 0 (row w ma va ∷ row w mb vb ∷ []) }
+pub fn sub(w: u32, a: Vector, b: Vector) -> Vector
+    requires { (w ≤ width_limit) × Ready op_sub w 0 (row_of w a ∷ row_of w b ∷ []) }
+    ensures { row_of w result ≡ result_of op_sub w 0 (row_of w a ∷ row_of w b ∷ []) }
 {
-    let least = std::num::wrapping_sub_u32(va, vb | mb);
-    let greatest = std::num::wrapping_sub_u32(va | ma, vb);
-    from_extremes(w, ma | mb, least, greatest)
+    let least = a.value.wrapping_sub(b.value | b.mask);
+    let greatest = (a.value | a.mask).wrapping_sub(b.value);
+    from_extremes(w, a.mask | b.mask, least, greatest)
 }
 
 // 0 - a modulo 2^w, with the extremes crossed as in sub.
-pub fn neg(w: u32, m: u32, v: u32) -> Vector
-    requires { (w ≤ width_limit) × Ready op_neg w 0 (row w m v ∷ []) }
-    ensures { row w result.mask result.value ≡ result_of op_neg w 0 (row w m v ∷ []) }
+pub fn neg(w: u32, a: Vector) -> Vector
+    requires { (w ≤ width_limit) × Ready op_neg w 0 (row_of w a ∷ []) }
+    ensures { row_of w result ≡ result_of op_neg w 0 (row_of w a ∷ []) }
 {
-    let least = std::num::wrapping_sub_u32(0, v | m);
-    let greatest = std::num::wrapping_sub_u32(0, v);
-    from_extremes(w, m, least, greatest)
+    let least = (a.value | a.mask).wrapping_neg();
+    let greatest = a.value.wrapping_neg();
+    from_extremes(w, a.mask, least, greatest)
 }

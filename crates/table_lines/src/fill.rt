@@ -67,8 +67,8 @@ pub fn survey(e: Edition, text: &[u8], first: usize) -> Tally
     }
     Tally {
         bad: 0,
-        rows: rows,
-        records: records,
+        rows,
+        records,
     }
 }
 
@@ -87,8 +87,7 @@ pub fn fill_rows(
         mask.old mask.new value.old value.new }
 {
     let mut at: usize = 0;
-    let mut k: usize = 0;
-    while k < n {
+    for k in 0..n {
         let end = end_of(text, at, LF);
         let f = line(e, &text[at..end]);
         match f {
@@ -106,7 +105,6 @@ pub fn fill_rows(
             }
         }
         at = end + 1;
-        k += 1;
     }
     at
 }
@@ -127,8 +125,7 @@ pub fn fill_records(e: Edition, text: &[u8], from: usize, n: usize, words: &mut 
 {
     let mut at = from;
     let mut i: usize = 0;
-    let mut k: usize = 0;
-    while k < n {
+    for k in 0..n {
         let end = end_of(text, at, LF);
         let f = line(e, &text[at..end]);
         match f {
@@ -143,6 +140,5 @@ pub fn fill_records(e: Edition, text: &[u8], from: usize, n: usize, words: &mut 
             }
         }
         at = end + 1;
-        k += 1;
     }
 }

@@ -17,10 +17,8 @@ pub fn rows_length(width: &[u8], lock: &[u8]) -> usize
 {
     let n = width.len();
     let mut total: usize = 0;
-    let mut i: usize = 0;
-    while i < n {
+    for i in 0..n {
         total += row_length(lock[i], width[i]);
-        i += 1;
     }
     total
 }
@@ -32,10 +30,8 @@ pub fn records_length(words: &[u32]) -> usize
 {
     let n = words.len() / RECORD_WORDS;
     let mut total: usize = 0;
-    let mut i: usize = 0;
-    while i < n {
+    for i in 0..n {
         total += record_length(record_at(words, i));
-        i += 1;
     }
     total
 }

@@ -14,7 +14,8 @@ use Rattle.checks.specs.Checks.{count_checks}
 use Rattle.checks.specs.Model.{judged}
 use Rattle.checks.proofs.Verdicts.{done-of-passed, passed-of-done}
 use Rattle.table_checks.proofs.Counts.{row-good}
-use Rattle.tables.specs.Run.{Count, count_of}
+use Rattle.tables.specs.declared.Counted.{Counted}
+use Rattle.tables.specs.Run.{count_of}
 
 module _ (t : Table) (i : ℕ) (e : judged (count_checks t i) ≡ done tt) where
   -- the ones of the mask, and the unknown bits of the row
@@ -33,7 +34,7 @@ module _ (t : Table) (i : ℕ) (e : judged (count_checks t i) ≡ done tt) where
   power : 1 * 2 ^ n % 2 ^ 64 ≡ 2 ^ u
   power = shl_exact {a = 1} 1 n 64 (omega arith) (omega (arith, count_small)) ∙ one-mul (2 ^ n) ∙ ap (λ (m : ℕ). 2 ^ m) ones-unknown
 
-  pub count-is : ◌≡◌ {A = Answer Count} (done (record { unknown = n; choices = 1 * 2 ^ n % 2 ^ 64 })) (count_of t i)
+  pub count-is : ◌≡◌ {A = Answer Counted} (done (record { unknown = n; choices = 1 * 2 ^ n % 2 ^ 64 })) (count_of t i)
   unfolding count_of
   count-is =
       (λ ι. done (record { unknown = ones-unknown ι; choices = power ι }))

@@ -5,7 +5,7 @@
 --   run_of t first last  run of the stretch of records from first up to but not including last (01's term)
 --   point_rows, plain_run the rows, and a plain run's numbers, at point s
 --   full_run t s         the rows that a full run (02's term: a run of all records) leaves, started from the rows s
---   Count, count_of t i  the unknown bits u of row i, and 2^u
+--   count_of t i         the unknown bits u of row i, and 2^u
 use Rattle.std.specs.Prelude.{List, ℕ, ◌-◌, ◌^◌}
 use Rattle.vectors.specs.Row.{unknowns}
 use Rattle.operations.specs.Record.{Effect, effects_of}
@@ -13,6 +13,7 @@ use Rattle.checks.specs.Check.{Answer, Leaves, leaving, verdict}
 use Rattle.checks.specs.Table.{State, row_at, Table, start_of, with_rows, record_count, record_of}
 use Rattle.checks.specs.Checks.{run_checks, count_checks}
 use Rattle.steps.specs.Step.{Program, after, plain_after}
+use Rattle.tables.specs.declared.Counted.{Counted}
 
 abbrev pub effects_at : Table → ℕ → List Effect
 effects_at t i = effects_of t.widths (record_of t i)
@@ -39,11 +40,7 @@ full_run t s = point_rows (with_rows t s) 0 (record_count t)
 abbrev pub plain_run : Table → ℕ → ℕ → List ℕ → List ℕ
 plain_run t first s ns = plain_after (program_of t) first (s - first) ns
 
-pub record Count : Type 0 where
-  pub unknown : ℕ
-  pub choices : ℕ
-
-unfoldable pub count_of : Table → ℕ → Answer Count
+unfoldable pub count_of : Table → ℕ → Answer Counted
 count_of t i =
     verdict (count_checks t i)
     (record { unknown = unknowns (row_at t.widths (start_of t) i); choices = 2 ^ unknowns (row_at t.widths (start_of t) i) })

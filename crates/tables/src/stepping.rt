@@ -5,26 +5,27 @@ ghost use Rattle.operations.specs.Kinds.{is_kind, kind_of};
 ghost use Rattle.operations.specs.Limits.{record_words};
 ghost use Rattle.operations.specs.Record.{words_of, effects_of};
 ghost use Rattle.checks.specs.Model.{lent};
-ghost use Rattle.operations.specs.Encoding.{use_code};
+ghost use Rattle.operations.specs.Encoding.{use_told};
 ghost use Rattle.steps.specs.Step.{after};
 ghost use Rattle.steps.specs.Step as Step;
 ghost use Rattle.tables.specs.Run.{program_of};
 ghost use Rattle.steps.specs.States.{held};
 ghost use Rattle.tables.specs.Encoding.{used_row, StepReady, StretchReady};
 
-use bits::{index, wide};
 use checks::records::record_at;
 use memories::{load_to, store};
+use operations::descriptions::WordUse;
 use operations::{LOAD, RECORD_WORDS, Record, has_cells, second_use, sixth_use};
+use vectors::Vector;
 
 // The row that a word names, 0 where it names none.
-fn used_row(code: u64, word: u32) -> usize
-    ensures { (u : Use) → code ≡ use_code u → result ≡ used_row u word }
+fn used_row(u: WordUse, word: u32) -> usize
+    ensures { (v : Use) → u ≡ use_told v → result ≡ used_row v word }
 {
-    if code != 1 {
-        return 0;
+    match u {
+        WordUse::Row => word as usize,
+        WordUse::Nothing | WordUse::Number | WordUse::Cells => 0,
     }
-    index(word)
 }
 
 // The rows that the words b and c name, 0 where they name none.
@@ -48,16 +49,26 @@ fn step_row(width: &[u8], mask: &mut [u32], value: &mut [u32], r: Record)
     ensures { let effects = effects_of width.now (words_of r) in
         held mask.new value.new ≡ Step.step width.now effects (held mask.old value.old) }
 {
-    let i = index(r.t);
-    let j = index(r.a);
+    let i = r.t as usize;
+    let j = r.a as usize;
     let k = second_row(r);
     let l = condition_row(r);
-    let wt = wide(width[i]);
-    let wa = wide(width[j]);
-    let wb = wide(width[k]);
-    let planes = results::of_record(
-        r, wt, wa, wb, mask[j], value[j], mask[k], value[k], mask[l], value[l],
-    );
+    let wt = width[i] as u32;
+    let wa = width[j] as u32;
+    let wb = width[k] as u32;
+    let a = Vector {
+        mask: mask[j],
+        value: value[j],
+    };
+    let b = Vector {
+        mask: mask[k],
+        value: value[k],
+    };
+    let c = Vector {
+        mask: mask[l],
+        value: value[l],
+    };
+    let planes = results::of_record(r, wt, wa, wb, a, b, c);
     mask[i] = planes.mask;
     value[i] = planes.value;
 }
@@ -72,14 +83,14 @@ fn step(width: &[u8], mask: &mut [u32], value: &mut [u32], r: Record)
         step_row(width, mask, value, r);
         return;
     }
-    let a = index(r.a);
-    let base = index(r.c);
-    let n = index(r.p);
+    let a = r.a as usize;
+    let base = r.c as usize;
+    let n = r.p as usize;
     if r.kind == LOAD {
-        load_to(width, mask, value, index(r.t), a, base, n);
+        load_to(width, mask, value, r.t as usize, a, base, n);
         return;
     }
-    store(width, mask, value, a, index(r.b), base, n);
+    store(width, mask, value, a, r.b as usize, base, n);
 }
 
 // The records of a part of the words, one after another.
@@ -89,10 +100,7 @@ pub fn step_all(width: &[u8], mask: &mut [u32], value: &mut [u32], words: &[u32]
         let start = held mask.old value.old in
         held mask.new value.new ≡ after program 0 (length words.now / record_words) start }
 {
-    let n = words.len() / RECORD_WORDS;
-    let mut i: usize = 0;
-    while i < n {
+    for i in 0..words.len() / RECORD_WORDS {
         step(width, mask, value, record_at(words, i));
-        i += 1;
     }
 }

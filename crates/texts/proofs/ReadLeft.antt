@@ -5,6 +5,7 @@
 --   read-answered, read-room   by read's answer: its counts, and the slices hold them
 use mathlib.Core.Path.{◌≡◌, refl, sym, ap, ◌∙◌, subst, subst₂}
 use mathlib.Core.List.{List, ◌++◌, map}
+use Rattle.std.specs.Prelude.{Result, Ok}
 use Prim.Native.Nat.{ℕ, ◌*◌, ◌≤◌}
 use native.Mathlib.Omega.{arith}
 use lib.ListN.{length, take, drop, length-append, length-map}
@@ -17,9 +18,9 @@ use Rattle.grammar.specs.Print.{LineRow}
 use Rattle.grammar.specs.Lines.{lines_in, rows_in, table_in, table_read}
 use Rattle.grammar.proofs.ReadWrite.{records-whole}
 use Rattle.texts.specs.Calls.{bad_line, Counts, counts_of, ReadBack, filled_with, read_of, first_of}
-use Rattle.texts.specs.Model.{read_model, read_left}
-use Rattle.texts.specs.declared.ReadAnswer.{ReadAnswer}
-use Rattle.texts.specs.declared.ReadAnswer.TheVariants.{Read}
+use Rattle.texts.specs.Model.{counts_model, read_model, read_left}
+use Rattle.texts.specs.declared.Counts.{Counts as CountsRead}
+use Rattle.checks.specs.declared.refusals.Refusal.{Refusal}
 use Rattle.texts.proofs.ReadChecks.{read-of-answer, answer-of-read}
 
 longer : (x y : List ℕ) → length x ≤ length (x ++ y)
@@ -86,9 +87,9 @@ module _ (text : List ℕ) (lent : Table) where
     room = subst₂ Room counted (sym (ap (λ (x : ReadBack). x.slices) left)) filled-room
 
   -- by the answer a of read and the slices that it leaves
-  module _ (a : ReadAnswer) {new : Table} (found : read_left a new ≡ read_of text lent) (rows records : ℕ) (is : a ≡ Read rows records) where
-    pub read-answered : (read_of text lent).answer ≡ done (record { rows = rows; records = records })
+  module _ (a : Result CountsRead Refusal) {new : Table} (found : read_left a new ≡ read_of text lent) (k : CountsRead) (is : a ≡ Ok k) where
+    pub read-answered : (read_of text lent).answer ≡ done (counts_model k)
     read-answered = sym (ap (λ (x : ReadBack). x.answer) found) ∙ ap read_model is
 
-    pub read-room : Room (record { rows = rows; records = records }) new
-    read-room = subst (Room (record { rows = rows; records = records })) (sym (ap (λ (x : ReadBack). x.slices) found)) (room _ read-answered)
+    pub read-room : Room (counts_model k) new
+    read-room = subst (Room (counts_model k)) (sym (ap (λ (x : ReadBack). x.slices) found)) (room _ read-answered)

@@ -6,6 +6,7 @@
 use mathlib.Core.Path.{◌≡◌, sym, ap, ap₂, ◌∙◌}
 use mathlib.Core.Bool.{Bool, cond}
 use mathlib.Core.List.{List, [], ◌∷◌, ◌++◌, append-nil}
+use Rattle.std.specs.Prelude.{Result, Ok, Err}
 use Prim.Native.Nat.{ℕ, ◌+◌, ◌≤◌, ◌<◌}
 use native.Mathlib.Nat.{zero-add}
 use native.Mathlib.Omega.{arith}
@@ -19,10 +20,8 @@ use Rattle.checks.specs.Check.{Answer, done, refused, leaving, verdict, placed}
 use Rattle.checks.specs.Table.{Table}
 use Rattle.checks.specs.Checks.{size_checks}
 use Rattle.checks.specs.Accepted.{TablePassed}
-use Rattle.checks.specs.Model.{lent, judged, verdict_model}
-use Rattle.checks.specs.declared.Refusal.{Refusal}
-use Rattle.checks.specs.declared.Verdict.{Verdict}
-use Rattle.checks.specs.declared.Verdict.TheVariants.{Passed, Refused}
+use Rattle.checks.specs.Model.{lent, judged, reason_number, answer_model, verdict_model}
+use Rattle.checks.specs.declared.refusals.Refusal.{Refusal}
 use Rattle.checks.proofs.Verdicts.{verdict-passed, verdict-refused, passed-append, done-of-passed}
 use Rattle.checks.proofs.Accepts.{passed-of-table, table-of-answer, answer-of-table}
 use Rattle.grammar.specs.Limits.{text_limit}
@@ -32,9 +31,6 @@ use Rattle.grammar.specs.Print.{lines_text, row_lines, record_lines, table_lines
 use Rattle.texts.specs.Calls.{size_of, buffer_short, write_checks, write_of}
 use Rattle.grammar.proofs.RecordLines.{words_length}
 use Rattle.grammar.proofs.Sizes.{lines-append, text-length, rows-size, records-size}
-use Rattle.texts.specs.Model.{bytes_model}
-use Rattle.texts.specs.declared.BytesAnswer.{BytesAnswer}
-use Rattle.texts.specs.declared.BytesAnswer.TheVariants.{Bytes, Refused as NotBytes}
 use Rattle.table_lines.specs.Print.{RowsFit, RecordsFit}
 use Rattle.printing.specs.Put.{Holds, Put}
 use Rattle.printing.proofs.Puts.{put-length, begin, step, done as put-done}
@@ -50,14 +46,14 @@ module _ (t : Table) (P : TablePassed t) where
 
 -- ---- size, by the verdict v of the checks
 
-module _ (t : Table) (v : Verdict) (found : verdict_model v ≡ judged (size_checks t)) where
-  pub size-refused : (r : Refusal) → v ≡ Refused r → refused r.number r.place ≡ size_of t
+module _ (t : Table) (v : Result (Unit {0}) Refusal) (found : verdict_model v ≡ judged (size_checks t)) where
+  pub size-refused : (r : Refusal) → v ≡ Err r → refused (reason_number r.reason) r.place ≡ size_of t
   unfolding size_of
   size-refused r e =
       sym (sym (ap (λ cs. verdict cs (length (text_of t))) (append-nil (size_checks t)))
-      ∙ verdict-refused (size_checks t) [] tt (length (text_of t)) r.number r.place (sym found ∙ ap verdict_model e))
+      ∙ verdict-refused (size_checks t) [] tt (length (text_of t)) (reason_number r.reason) r.place (sym found ∙ ap verdict_model e))
 
-  module _ (e : v ≡ Passed) where
+  module _ (e : v ≡ Ok tt) where
     passed : TablePassed t
     passed = table-of-answer t tt tt (sym found ∙ ap verdict_model e)
 
@@ -81,16 +77,16 @@ written t out P h =
     (done-of-passed (write_checks t (length out)) (length (text_of t))
     (passed-append (size_checks t) (placed 0 (fault (buffer_short t (length out)) 14 ∷ [])) (passed-of-table t P) (le→nltb (length out) (length (text_of t)) h, tt)))
 
-module _ (t : Table) (out : List ℕ) (a : BytesAnswer) (found : bytes_model a ≡ size_of t) where
-  pub write-refused : (r : Refusal) → a ≡ NotBytes r → record { answer = refused r.number r.place; left = out } ≡ write_of t out
+module _ (t : Table) (out : List ℕ) (a : Result ℕ Refusal) (found : answer_model a ≡ size_of t) where
+  pub write-refused : (r : Refusal) → a ≡ Err r → record { answer = refused (reason_number r.reason) r.place; left = out } ≡ write_of t out
   unfolding size_of write_of write_checks
   write-refused r e =
       sym (ap (λ (x : Answer ℕ). leaving x out (filled (text_of t) out))
-      (verdict-refused (size_checks t) (placed 0 (fault (buffer_short t (length out)) 14 ∷ [])) (length (text_of t)) (length (text_of t)) r.number r.place (sym found ∙ ap bytes_model e)))
+      (verdict-refused (size_checks t) (placed 0 (fault (buffer_short t (length out)) 14 ∷ [])) (length (text_of t)) (length (text_of t)) (reason_number r.reason) r.place (sym found ∙ ap answer_model e)))
 
-  module _ (n : ℕ) (is : a ≡ Bytes n) where
+  module _ (n : ℕ) (is : a ≡ Ok n) where
     e : done n ≡ size_of t
-    e = sym (ap bytes_model is) ∙ found
+    e = sym (ap answer_model is) ∙ found
 
     size_is : TablePassed t × (n ≡ length (text_of t))
     unfolding size_of

@@ -1,15 +1,15 @@
 // The text of a table: size, write, read and field (01, "Calls" and "Text"; 02, request 11).
 #![tactic(auto)]
 
-ghost use Rattle.std.specs.Prelude.{◌≡◌};
-ghost use Rattle.checks.specs.Model.{lent};
+ghost use Rattle.std.specs.Prelude.{◌≡◌, Err};
+ghost use Rattle.checks.specs.Model.{answer_model, in_table, lent};
 ghost use Rattle.grammar.specs.Cut.{field_of};
 ghost use Rattle.texts.specs.Calls.{size_of, write_of, read_of};
 ghost use Rattle.lines.specs.Model.{lies};
-ghost use Rattle.texts.specs.Model.{bytes_model, write_left, read_left};
+ghost use Rattle.texts.specs.Model.{write_left, read_left};
 
-use checks::refusals::{BUFFER, LENGTHS, LINE, LONG, ROOM};
-use checks::{Refusal, Verdict};
+use checks::refusals::{Reason, Refusal};
+use checks::table::Table;
 use grammar::{LF, TAB};
 use limits::{HEADER_BYTES, TEXT_LIMIT};
 use lines::cut::part;
@@ -23,74 +23,45 @@ use table_lines::print::{put_records, put_rows};
 
 pub mod limits; // limits.rt: numbers that 01 sets
 
-// A number of bytes.
-#[derive(Clone, Copy)]
-pub enum BytesAnswer {
-    Bytes(usize),
-    Refused(Refusal),
-}
-
 // The number of bytes that the text of a table has.
-pub fn size(width: &[u8], lock: &[u8], mask: &[u32], value: &[u32], words: &[u32]) -> BytesAnswer
-    ensures { let table = lent width.now lock.now mask.now value.now words.now in
-        bytes_model result ≡ size_of table }
+pub fn size(t: Table) -> Result<usize, Refusal>
+    ensures { answer_model result ≡ size_of (in_table t.entry) }
 {
-    let found = check_table(width, lock, mask, value, words);
-    match found {
-        Verdict::Refused(r) => BytesAnswer::Refused(r),
-        Verdict::Passed => {
-            let rows = rows_length(width, lock);
-            let records = records_length(words);
-            BytesAnswer::Bytes(HEADER_BYTES + rows + records)
-        }
-    }
+    check_table(t)?;
+    let rows = rows_length(t.width, t.lock);
+    let records = records_length(t.words);
+    Ok(HEADER_BYTES + rows + records)
 }
 
 // Writes the text of a table into the lent buffer, and answers its byte count.
-pub fn write(
-    width: &[u8],
-    lock: &[u8],
-    mask: &[u32],
-    value: &[u32],
-    words: &[u32],
-    out: &mut [u8],
-) -> BytesAnswer
-    ensures { let table = lent width.now lock.now mask.now value.now words.now in
-        write_left result out.new ≡ write_of table out.old }
+pub fn write(t: Table, out: &mut [u8]) -> Result<usize, Refusal>
+    ensures { write_left result out.new ≡ write_of (in_table t.entry) out.old }
 {
-    let found = size(width, lock, mask, value, words);
-    match found {
-        BytesAnswer::Refused(r) => BytesAnswer::Refused(r),
-        BytesAnswer::Bytes(n) => {
-            if out.len() < n {
-                return BytesAnswer::Refused(Refusal {
-                    number: BUFFER,
-                    place: 0,
-                });
-            }
-            let from = put_word(out, 0, b"edition\t3\n");
-            let at = put_rows(out, from, width, lock, mask, value);
-            let end = put_records(out, at, words);
-            BytesAnswer::Bytes(end)
-        }
+    let n = size(t)?;
+    if out.len() < n {
+        return Err(Refusal {
+            reason: Reason::Buffer,
+            place: 0,
+        });
     }
+    let from = put_word(out, 0, b"edition\t3\n");
+    let at = put_rows(out, from, t);
+    let end = put_records(out, at, t.words);
+    Ok(end)
 }
 
-// The counts of rows and of records.
+// How many rows and how many records a text has.
 #[derive(Clone, Copy)]
-pub enum ReadAnswer {
-    Read(usize, usize),
-    Refused(Refusal),
+pub struct Counts {
+    pub rows: usize,
+    pub records: usize,
 }
 
 // A refusal of read.
-fn refused(number: u32, place: usize) -> ReadAnswer
-    ensures { result ≡ ReadAnswer.Refused (record { number = number; place = place }) }
+fn refused(reason: Reason, place: usize) -> Result<Counts, Refusal>
+    ensures { result ≡ Err (record { reason = reason; place = place }) }
 {
-    ReadAnswer::Refused(Refusal {
-        number: number,
-        place: place,
-    })
+    Err(Refusal { reason, place })
 }
 
 // Reads a text into the lent slices, from their start. The text is judged whole before the first slice is written.
@@ -101,23 +72,23 @@ pub fn read(
     mask: &mut [u32],
     value: &mut [u32],
     words: &mut [u32],
-) -> ReadAnswer
+) -> Result<Counts, Refusal>
     ensures { let slices = lent width.old lock.old mask.old value.old words.old in
         let left = lent width.new lock.new mask.new value.new words.new in
         read_left result left ≡ read_of text.now slices }
 {
     let n = width.len();
     if lock.len() != n {
-        return refused(LENGTHS, 0);
+        return refused(Reason::Lengths, 0);
     }
     if mask.len() != n {
-        return refused(LENGTHS, 0);
+        return refused(Reason::Lengths, 0);
     }
     if value.len() != n {
-        return refused(LENGTHS, 0);
+        return refused(Reason::Lengths, 0);
     }
     if TEXT_LIMIT < text.len() {
-        return refused(LONG, 0);
+        return refused(Reason::Long, 0);
     }
     let o = opening_of(text);
     let e = o.edition;
@@ -129,17 +100,17 @@ pub fn read(
     let rows = s.rows;
     let records = s.records;
     if bad != 0 {
-        return refused(LINE, bad);
+        return refused(Reason::Line, bad);
     }
     if n < rows {
-        return refused(ROOM, 0);
+        return refused(Reason::Room, 0);
     }
     if words.len() < RECORD_WORDS * records {
-        return refused(ROOM, 0);
+        return refused(Reason::Room, 0);
     }
     let at = fill_rows(e, body, rows, width, lock, mask, value);
     fill_records(e, body, at, records, words);
-    ReadAnswer::Read(rows, records)
+    Ok(Counts { rows, records })
 }
 
 // The field named by a line and a field, both from 1: a part of the lent text, and an empty part where there is none.

@@ -1,4 +1,5 @@
 // Tables tried, and tables that disagree.
+ghost use Rattle.std.specs.Prelude.{◌<◌};
 
 // The tables tried, and those among them on which run and the enumeration disagree.
 #[derive(Clone, Copy)]
@@ -23,7 +24,18 @@ pub fn one(agrees: bool) -> Tally {
 // The tables of both.
 pub fn joined(a: Tally, b: Tally) -> Tally {
     Tally {
-        tried: std::num::wrapping_add_u64(a.tried, b.tried),
-        wrong: std::num::wrapping_add_u64(a.wrong, b.wrong),
+        tried: a.tried.wrapping_add(b.tried),
+        wrong: a.wrong.wrapping_add(b.wrong),
     }
+}
+
+// The tables of all parts below n, rising.
+pub fn each<F: Fn(u64) -> Tally>(n: u64, part: F) -> Tally
+    requires { (k : _) → k < n → F.pre part k }
+{
+    let mut tally = none();
+    for k in 0..n {
+        tally = joined(tally, part(k));
+    }
+    tally
 }

@@ -1,15 +1,14 @@
 // The unstarred examples that need no text (01, "Worked examples"; 02, requests 2, 4 and 11).
-use crate::counting::{Tally, joined, none, one};
-use crate::{Rows, answers, makes, table};
+use crate::counting::{Tally, each, joined, one};
+use crate::{Rows, makes, table};
+use checks::refusals::{Reason, Refusal};
 use oracle::choices::Row;
-use oracle::shapes::Shape;
+use oracle::numbers::{byte, word};
+use tables::run;
 
 // A row's mask and value.
 fn row(mask: u32, value: u32) -> Row {
-    Row {
-        mask: mask,
-        value: value,
-    }
+    Row { mask, value }
 }
 
 // A first operand and a target, and zeros.
@@ -18,91 +17,96 @@ fn operand_and_target(a: Row, t: Row) -> Rows {
     table(a, zero, zero, t)
 }
 
-// Whether a record of one width whose operand words name row 0, which is a, makes the target's row end of start, or is refused with this number where it
-// is not 0.
-fn gives(kind: u64, w: u64, p: u64, a: Row, start: Row, end: Row, number: u32) -> Tally {
-    let s = Shape {
-        kind: kind,
-        wt: w,
-        wa: w,
-        wb: 1,
-        p: p,
-    };
+// Whether run of a record of one width whose operand words name row 0, which is a, makes the target's row end of start, and gives this answer.
+fn gives(
+    kind: u64,
+    w: u64,
+    p: u64,
+    a: Row,
+    start: Row,
+    end: Row,
+    due: Result<usize, Refusal>,
+) -> Tally {
+    let width = [byte(w), 1, 1, byte(w)];
+    let words = [word(kind), 3, 0, 0, word(p), 0];
     let before = operand_and_target(a, start);
     let after = operand_and_target(a, end);
-    one(makes(s, 0, 0, before, after, number))
+    one(makes(width, words, before, after, due))
 }
 
 // rotl 0X1 by 4 = X10.
 fn rotl_by_four() -> Tally {
-    gives(8, 3, 4, row(0b010, 0b001), row(0, 0), row(0b100, 0b010), 0)
+    gives(
+        8,
+        3,
+        4,
+        row(0b010, 0b001),
+        row(0, 0),
+        row(0b100, 0b010),
+        Ok(1),
+    )
 }
 
 // ashr X0 by 31 = XX.
 fn ashr_by_most() -> Tally {
-    gives(7, 2, 31, row(0b10, 0b00), row(0, 0), row(0b11, 0b00), 0)
+    gives(7, 2, 31, row(0b10, 0b00), row(0, 0), row(0b11, 0b00), Ok(1))
 }
 
-// Width 3 and this parameter: refused with this number, and the rows stay.
-fn refused(kind: u64, p: u64, number: u32) -> Tally {
+// Width 3 and this parameter: refused for this reason, and the rows stay.
+fn refused(kind: u64, p: u64, reason: Reason) -> Tally {
     let target = row(0b100, 0b010);
-    gives(kind, 3, p, row(0b010, 0b001), target, target, number)
+    let due = Err(Refusal { reason, place: 0 });
+    gives(kind, 3, p, row(0b010, 0b001), target, target, due)
 }
 
 // Parameter 32 for each shift, rotation and extract: refusal 8.
 fn parameters_over() -> Tally {
-    let mut tally = none();
-    let mut kind: u64 = 5;
-    while kind <= 9 {
-        tally = joined(tally, refused(kind, 32, 8));
-        kind += 1;
-    }
-    tally
+    each(5, |n| refused(5 + n, 32, Reason::Word))
 }
 
 // xor of a row X with itself = 0, and sub likewise: both operands are one number (02, request 2).
 fn with_itself(kind: u64) -> Tally {
-    gives(kind, 1, 0, row(1, 0), row(1, 0), row(0, 0), 0)
+    gives(kind, 1, 0, row(1, 0), row(1, 0), row(0, 0), Ok(1))
 }
 
 // ite of X and 1, and of 0 and X, with the row X also as its condition = X: the condition is chosen independently. As one number with a row it would give 1,
 // and 0.
 fn with_its_condition(a: Row, b: Row, condition: u32) -> Tally {
-    let s = Shape {
-        kind: 20,
-        wt: 1,
-        wa: 1,
-        wb: 1,
-        p: 0,
-    };
+    let words = [20, 3, 0, 1, 0, condition];
     let before = table(a, b, row(0, 0), row(0, 0));
     let after = table(a, b, row(0, 0), row(1, 0));
-    one(makes(s, 1, condition, before, after, 0))
+    one(makes([1; 4], words, before, after, Ok(1)))
 }
 
 // ite with a parameter: refusal 8, before that of its widths.
 fn with_parameter() -> Tally {
-    refused(20, 2, 8)
+    refused(20, 2, Reason::Word)
 }
 
 // A load from row 0 on, of a table of four rows: refusal 7 past the table, also where n is near 2^32; 8 without a cell; 9 with cells of the widths 3, 1 and 1. A
 // store with a target word: refusal 8.
 fn memories_refused() -> Tally {
-    let span = joined(refused(24, 5, 7), refused(24, 4294967295, 7));
+    let span = joined(
+        refused(24, 5, Reason::Row),
+        refused(24, 4294967295, Reason::Row),
+    );
     joined(
-        joined(refused(24, 0, 8), refused(24, 3, 9)),
-        joined(span, refused(25, 1, 8)),
+        joined(refused(24, 0, Reason::Word), refused(24, 3, Reason::Fit)),
+        joined(span, refused(25, 1, Reason::Word)),
     )
 }
 
 // A wide product with a parameter: refusal 8. With a target as wide as one operand alone: refusal 9.
 fn wide_refused(kind: u64) -> Tally {
-    joined(refused(kind, 1, 8), refused(kind, 0, 9))
+    joined(
+        refused(kind, 1, Reason::Word),
+        refused(kind, 0, Reason::Fit),
+    )
 }
 
 // The first kind that is unknown: refusal 6.
 fn kind_over() -> Tally {
-    refused(26, 0, 6)
+    refused(26, 0, Reason::Kind)
 }
 
 // 256 rows accepted.
@@ -112,8 +116,8 @@ fn most_rows() -> Tally {
     let mut mask = [1u32; 256];
     let mut value = [0u32; 256];
     let words = [0u32, 255, 0, 0, 0, 0];
-    let answer = tables::run(&width, &lock, &mut mask, &mut value, &words, 0, 1);
-    one(answers(answer, 0))
+    let answer = run(&width, &lock, &mut mask, &mut value, &words, 0, 1);
+    one(answer == Ok(1))
 }
 
 // The examples tried, and those that disagree.

@@ -2,18 +2,18 @@
 #![tactic(auto)]
 
 ghost use Rattle.std.specs.Prelude.{◌≡◌, length};
-ghost use Rattle.oracle.specs.Sizes.{Sized};
 
+use checks::refusals::Refusal;
 use oracle::choices::{Row, enumerated, enumerated_twice};
 use oracle::numbers::{byte, word};
 use oracle::shapes::{Shape, uses_condition, uses_second};
-use tables::RunAnswer;
+use tables::run;
 
 pub mod counting; // counting.rt: tables tried and tables that disagree
 pub mod examples; // examples.rt: worked examples
 
 // The rows' masks and values: 0 and 1 the operands, 2 the condition, 3 the target.
-#[derive(Clone, Copy)]
+#[derive(Clone, Copy, PartialEq, Eq)]
 struct Rows {
     mask: [u32; 4],
     value: [u32; 4],
@@ -46,56 +46,18 @@ fn sixth_word(kind: u64) -> u32 {
     if uses_condition(kind) { 2 } else { 0 }
 }
 
-// Whether run answers 1, that is all of one record. With a number other than 0: whether it answers that refusal, of record 0.
-fn answers(answer: RunAnswer, number: u32) -> bool {
-    match answer {
-        RunAnswer::Done(last) => {
-            if number != 0 {
-                return false;
-            }
-            last == 1
-        }
-        RunAnswer::Refused(r) => {
-            if number == 0 {
-                return false;
-            }
-            if r.number != number {
-                return false;
-            }
-            r.place == 0
-        }
-    }
-}
-
-// Whether the words are the same.
-pub fn same(a: &[u32; 4], b: &[u32; 4]) -> bool {
-    let mut k: usize = 0;
-    while k < 4 {
-        if a[k] != b[k] {
-            return false;
-        }
-        k += 1;
-    }
-    true
-}
-
-// Whether run makes the rows after of those before, or refuses with this number where it is not 0.
-fn makes(s: Shape, second: u32, sixth: u32, before: Rows, after: Rows, number: u32) -> bool {
-    let width = widths(s);
-    let words = record(s, second, sixth);
+// Whether run of one record makes the rows after of those before, and gives this answer.
+fn makes(
+    width: [u8; 4],
+    words: [u32; 6],
+    before: Rows,
+    after: Rows,
+    due: Result<usize, Refusal>,
+) -> bool {
     let lock = [0u8; 4];
-    let mut mask = before.mask;
-    let mut value = before.value;
-    let answer = tables::run(&width, &lock, &mut mask, &mut value, &words, 0, 1);
-    if !answers(answer, number) {
-        return false;
-    }
-    let end = after.mask;
-    if !same(&mask, &end) {
-        return false;
-    }
-    let end = after.value;
-    same(&value, &end)
+    let mut rows = before;
+    let answer = run(&width, &lock, &mut rows.mask, &mut rows.value, &words, 0, 1);
+    answer == due && rows == after
 }
 
 // Whether run makes this result at the target, and the other rows stay. At the start bit 0 of the target is known where the result's is unknown, and
@@ -107,13 +69,12 @@ fn leaves(s: Shape, second: u32, a: Row, b: Row, c: Row, res: Row) -> bool {
     };
     let before = table(a, b, c, start);
     let after = table(a, b, c, res);
-    makes(s, second, sixth_word(s.kind), before, after, 0)
+    let words = record(s, second, sixth_word(s.kind));
+    makes(widths(s), words, before, after, Ok(1))
 }
 
 // Whether run and the enumeration agree where the operand words name two rows.
-pub fn agrees(s: Shape, a: Row, b: Row, c: Row) -> bool
-    requires { Sized s.wt s.wa s.wb s.p }
-{
+pub fn agrees(s: Shape, a: Row, b: Row, c: Row) -> bool {
     let result = enumerated(s, a, b, c);
     if uses_second(s.kind) {
         return leaves(s, 1, a, b, c, result);
@@ -122,8 +83,6 @@ pub fn agrees(s: Shape, a: Row, b: Row, c: Row) -> bool
 }
 
 // Whether they agree where both operand words name row 0. Row 1, which no word names, has the same vector.
-pub fn agrees_twice(s: Shape, a: Row, c: Row) -> bool
-    requires { Sized s.wt s.wa s.wb s.p }
-{
+pub fn agrees_twice(s: Shape, a: Row, c: Row) -> bool {
     leaves(s, 0, a, a, c, enumerated_twice(s, a, c))
 }

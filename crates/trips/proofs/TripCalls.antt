@@ -3,21 +3,20 @@
 --   form-trip, not-read, bytes-trip    read, then written
 use mathlib.Core.Path.{◌≡◌, sym, ap, ◌∙◌}
 use mathlib.Core.List.{List}
+use Rattle.std.specs.Prelude.{Result, Ok, Err}
 use Prim.Native.Nat.{ℕ, ◌≤◌}
 use native.Mathlib.Omega.{arith}
 use lib.ListN.{length, take, drop, length-append}
 use Rattle.checks.specs.Check.{done, refused}
 use Rattle.checks.specs.Table.{Table}
-use Rattle.checks.specs.declared.Refusal.{Refusal}
+use Rattle.checks.specs.declared.refusals.Refusal.{Refusal}
+use Rattle.checks.specs.Model.{reason_number, answer_model}
 use Rattle.grammar.specs.Lists.{filled}
 use Rattle.grammar.specs.Print.{text_of}
 use Rattle.grammar.proofs.Forms.{form-same}
 use Rattle.texts.specs.Calls.{Written, write_of, ReadBack, read_of, first_of}
-use Rattle.texts.specs.Model.{bytes_model, write_left, read_model, read_left}
-use Rattle.texts.specs.declared.BytesAnswer.{BytesAnswer}
-use Rattle.texts.specs.declared.BytesAnswer.TheVariants.{Bytes, Refused as NotBytes}
-use Rattle.texts.specs.declared.ReadAnswer.{ReadAnswer}
-use Rattle.texts.specs.declared.ReadAnswer.TheVariants.{Read, Refused as NotRead}
+use Rattle.texts.specs.Model.{write_left, counts_model, read_model, read_left}
+use Rattle.texts.specs.declared.Counts.{Counts}
 use Rattle.texts.proofs.ReadLeft.{read-answered}
 use Rattle.texts.proofs.WriteCall.{written}
 use Rattle.trips.specs.Trips.{TableBack, FormBack, BytesBack}
@@ -25,19 +24,19 @@ use Rattle.trips.proofs.RoundTrips.{write-of-answer, table-back, form-back}
 
 -- ---- written, then read: by the answer a of write and the buffer that it leaves
 
-module _ (t : Table) (out : List ℕ) (a : BytesAnswer) {new : List ℕ} (found : write_left a new ≡ write_of t out) where
-  answer-is : bytes_model a ≡ (write_of t out).answer
+module _ (t : Table) (out : List ℕ) (a : Result ℕ Refusal) {new : List ℕ} (found : write_left a new ≡ write_of t out) where
+  answer-is : answer_model a ≡ (write_of t out).answer
   answer-is = ap (λ (x : Written). x.answer) found
 
-  pub not_written : (r : Refusal) → a ≡ NotBytes r → (lent : Table) (got : ReadBack) → TableBack t out lent got
+  pub not_written : (r : Refusal) → a ≡ Err r → (lent : Table) (got : ReadBack) → TableBack t out lent got
   not_written r is lent got n w R =
-      let same : refused r.number r.place ≡ done n = sym (ap bytes_model is) ∙ answer-is ∙ w in
+      let same : refused (reason_number r.reason) r.place ≡ done n = sym (ap answer_model is) ∙ answer-is ∙ w in
       let z : ◌≡◌ {A = ℕ} 0 1 = cc in
       absurd (omega arith)
 
-  module _ (n : ℕ) (is : a ≡ Bytes n) where
+  module _ (n : ℕ) (is : a ≡ Ok n) where
     answered : (write_of t out).answer ≡ done n
-    answered = sym answer-is ∙ ap bytes_model is
+    answered = sym answer-is ∙ ap answer_model is
 
     pub write-room : n ≤ length new
     write-room =
@@ -53,22 +52,22 @@ module _ (t : Table) (out : List ℕ) (a : BytesAnswer) {new : List ℕ} (found 
 -- ---- read, then written
 
 -- by the answer a of read and the slices that it leaves
-module _ (text : List ℕ) (lent : Table) (a : ReadAnswer) {new : Table} (found : read_left a new ≡ read_of text lent) where
+module _ (text : List ℕ) (lent : Table) (a : Result Counts Refusal) {new : Table} (found : read_left a new ≡ read_of text lent) where
   read_is : read_model a ≡ (read_of text lent).answer
   read_is = ap (λ (x : ReadBack). x.answer) found
 
-  pub not-read : (r : Refusal) → a ≡ NotRead r → (out : List ℕ) (got : Written) → FormBack text lent out got
+  pub not-read : (r : Refusal) → a ≡ Err r → (out : List ℕ) (got : Written) → FormBack text lent out got
   not-read r is out got c w n v =
-      let same : refused r.number r.place ≡ done c = sym (ap read_model is) ∙ read_is ∙ w in
+      let same : refused (reason_number r.reason) r.place ≡ done c = sym (ap read_model is) ∙ read_is ∙ w in
       let z : ◌≡◌ {A = ℕ} 0 1 = cc in
       absurd (omega arith)
 
-  module _ (rows records : ℕ) (is : a ≡ Read rows records) where
-    pub form-trip : (out : List ℕ) (got : Written) → got ≡ write_of (first_of (record { rows = rows; records = records }) new) out → FormBack text lent out got
-    form-trip out got g k w n v =
+  module _ (k : Counts) (is : a ≡ Ok k) where
+    pub form-trip : (out : List ℕ) (got : Written) → got ≡ write_of (first_of (counts_model k) new) out → FormBack text lent out got
+    form-trip out got g j w n v =
         g
-        ∙ ap (λ (x : ReadBack). write_of (first_of (record { rows = rows; records = records }) x.slices) out) found
-        ∙ form-back text lent out (record { rows = rows; records = records }) (read-answered text lent a found rows records is) k w n v
+        ∙ ap (λ (x : ReadBack). write_of (first_of (counts_model k) x.slices) out) found
+        ∙ form-back text lent out (counts_model k) (read-answered text lent a found k is) j w n v
 
 -- a text of edition 3 is its own form
 pub bytes-trip : (text : List ℕ) (lent : Table) (out : List ℕ) (got : Written) → FormBack text lent out got → BytesBack text lent out got

@@ -1,37 +1,31 @@
 // The round trips through the text over the calls themselves (demand 2): each contract is the round trip.
 #![tactic(auto)]
 
-ghost use Rattle.checks.specs.Model.{lent};
+ghost use Rattle.checks.specs.Model.{in_table, lent};
 ghost use Rattle.trips.specs.Trips.{TableBack, FormBack, BytesBack};
 ghost use Rattle.texts.specs.Model.{write_left, read_left};
 
+use checks::refusals::Refusal;
+use checks::table::Table;
 use operations::RECORD_WORDS;
-use texts::{BytesAnswer, ReadAnswer, read, write};
+use texts::{Counts, read, write};
 
 // A table that is written into `out` is read back from there into other slices.
 pub fn write_then_read(
-    width: &[u8],
-    lock: &[u8],
-    mask: &[u32],
-    value: &[u32],
-    words: &[u32],
+    t: Table,
     out: &mut [u8],
     widths: &mut [u8],
     locks: &mut [u8],
     masks: &mut [u32],
     values: &mut [u32],
     records: &mut [u32],
-) -> ReadAnswer
-    ensures { let table = lent width.now lock.now mask.now value.now words.now in
-        let slices = lent widths.old locks.old masks.old values.old records.old in
+) -> Result<Counts, Refusal>
+    ensures { let slices = lent widths.old locks.old masks.old values.old records.old in
         let left = lent widths.new locks.new masks.new values.new records.new in
-        TableBack table out.old slices (read_left result left) }
+        TableBack (in_table t.entry) out.old slices (read_left result left) }
 {
-    let written = write(width, lock, mask, value, words, out);
-    match written {
-        BytesAnswer::Refused(r) => ReadAnswer::Refused(r),
-        BytesAnswer::Bytes(n) => read(&out[..n], widths, locks, masks, values, records),
-    }
+    let n = write(t, out)?;
+    read(&out[..n], widths, locks, masks, values, records)
 }
 
 // A text that is read into the slices, of any edition, is written from there into `out` as its edition-3 form.
@@ -43,25 +37,20 @@ pub fn listing_then_write(
     value: &mut [u32],
     words: &mut [u32],
     out: &mut [u8],
-) -> BytesAnswer
+) -> Result<usize, Refusal>
     ensures { let slices = lent width.old lock.old mask.old value.old words.old in
         FormBack text.now slices out.old (write_left result out.new) }
 {
-    let found = read(text, width, lock, mask, value, words);
-    match found {
-        ReadAnswer::Refused(r) => BytesAnswer::Refused(r),
-        ReadAnswer::Read(rows, records) => {
-            let n = RECORD_WORDS * records;
-            write(
-                &width[..rows],
-                &lock[..rows],
-                &mask[..rows],
-                &value[..rows],
-                &words[..n],
-                out,
-            )
-        }
-    }
+    let c = read(text, width, lock, mask, value, words)?;
+    let n = RECORD_WORDS * c.records;
+    let t = Table {
+        width: &width[..c.rows],
+        lock: &lock[..c.rows],
+        mask: &mask[..c.rows],
+        value: &value[..c.rows],
+        words: &words[..n],
+    };
+    write(t, out)
 }
 
 // A text of edition 3 that is read into the slices is written back from there into `out`.
@@ -73,7 +62,7 @@ pub fn read_then_write(
     value: &mut [u32],
     words: &mut [u32],
     out: &mut [u8],
-) -> BytesAnswer
+) -> Result<usize, Refusal>
     ensures { let slices = lent width.old lock.old mask.old value.old words.old in
         BytesBack text.now slices out.old (write_left result out.new) }
 {

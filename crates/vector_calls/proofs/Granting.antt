@@ -38,7 +38,7 @@ module _ (w ma va mb vb : ℕ) where
       let number = placed 0 (bit_faults w k) in
       (operands-of-passed (passed-left operands number P), bit-of-passed k (passed-right operands number P))
 
-  pub asked : (kind k : ℕ) → Passed (placed 0 (operation_faults kind w ma va mb vb k)) → Asked kind w k (record { ma = ma; va = va; mb = mb; vb = vb })
+  pub asked : (kind k : ℕ) → Passed (placed 0 (operation_faults kind w ma va mb vb k)) → Asked kind w k (record { a = record { mask = ma; value = va }; b = record { mask = mb; value = vb } })
   asked kind k P =
       let operands = placed 0 (two_vector_faults w ma va mb vb) in
       let operation = placed 0 (kind_faults kind) in

@@ -13,13 +13,14 @@ use lib.Dec.{T, eqb, nltb→le, nleb→lt}
 use Rattle.bits.specs.Limits.{width_limit}
 use Rattle.vectors.specs.Row.{row, WellFormed}
 use Rattle.range_search.specs.declared.Range.{Range}
-use Rattle.range_search.specs.declared.InRange.{InRange}
-use Rattle.range_search.specs.declared.InRange.TheVariants.{Found, Empty}
+use Rattle.std.specs.Prelude.{Option, Some, None, Result, ok_or}
 use Rattle.range_search.specs.Range.{none_between, range_in, in_range_of, Ranged}
 use Rattle.range_search.proofs.Answers.{none-iff, some-between, ranged}
 use Rattle.checks.specs.Check.{Answer, done, refused, Check, verdict, placed, Passed}
 use Rattle.checks.specs.Checks.{width_faults, vector_faults}
-use Rattle.checks.specs.Model.{judged}
+use Rattle.checks.specs.declared.refusals.Refusal.{Refusal}
+use Rattle.checks.specs.declared.refusals.Reason.TheVariants.{Empty}
+use Rattle.checks.specs.Model.{answer_model, judged}
 use Rattle.checks.proofs.Verdicts.{passed-left, passed-right, done-of-passed, passed-of-done, verdict-passed, verdict-refused, number_of, done-same, not_done}
 use Rattle.checks.proofs.Numbered.{refused-number}
 use Rattle.checks.proofs.RowChecks.{width-of-passed, vector-of-passed}
@@ -133,18 +134,18 @@ module _ (w m v low high : ℕ) where
 
   -- ---- the three ways to answer
 
-  pub claims-refused : (n i : ℕ) → judged inputs ≡ refused n i → Claims (refused n i)
+  pub claims-refused : (n i : ℕ) → judged inputs ≡ refused n i → (a : Answer Range) → a ≡ refused n i → Claims a
   unfolding range_of range_checks
-  claims-refused n i e = claims (refused n i) (sym (verdict-refused inputs empty tt (range_in (row w m v) low high) n i e))
+  claims-refused n i e a p = claims a (p ∙ sym (verdict-refused inputs empty tt (range_in (row w m v) low high) n i e))
 
   -- what the search found, as an answer
-  abbrev answer_of : InRange → Answer Range
-  answer_of (Found x) = done x
-  answer_of Empty = refused 18 0
+  abbrev answer_of : Option Range → Answer Range
+  answer_of x = answer_model (ok_or x (record { reason = Empty; place = 0 }))
 
-  told : (b : Bool) → answer_of (cond b Empty (Found (range_in (row w m v) low high))) ≡ cond b (refused 18 0) (done (range_in (row w m v) low high))
+  told : (b : Bool) → answer_of (cond b None (Some (range_in (row w m v) low high))) ≡ cond b (refused 18 0) (done (range_in (row w m v) low high))
   told true = refl
   told false = refl
 
-  pub claims-found : Passed inputs → (x : InRange) → x ≡ in_range_of (row w m v) low high → Claims (answer_of x)
-  claims-found P x e = claims (answer_of x) (ap answer_of e ∙ told (none_between (row w m v) low high) ∙ sym (after-inputs P))
+  pub claims-found : Passed inputs → (x : Option Range) → x ≡ in_range_of (row w m v) low high → (r : Result Range Refusal) → r ≡ ok_or x (record { reason = Empty; place = 0 })
+      → Claims (answer_model r)
+  claims-found P x e r f = claims (answer_model r) (ap answer_model f ∙ ap answer_of e ∙ told (none_between (row w m v) low high) ∙ sym (after-inputs P))

@@ -54,11 +54,11 @@ module _ (kind w ma va mb vb k : ℕ) (x : OutputBit) (e : x ≡ output_bit (res
     unknown-done u = on ∙ clears known (ap not (is_set-true result.mask k (mask_is ∙ ap output_mask u)))
 
   -- an unknown bit may be either
-  pub either-sought : Asked kind w k (record { ma = ma; va = va; mb = mb; vb = vb }) → x ≡ Unknown
-      → (d : ℕ) → d < 2 → Sought kind w k d (record { ma = ma; va = va; mb = mb; vb = vb })
+  pub either-sought : Asked kind w k (record { a = record { mask = ma; value = va }; b = record { mask = mb; value = vb } }) → x ≡ Unknown
+      → (d : ℕ) → d < 2 → Sought kind w k d (record { a = record { mask = ma; value = va }; b = record { mask = mb; value = vb } })
   either-sought A u d l =
       record {
         asked = A;
         value = l;
-        possible = subst T (ap (λ (b : OutputBit). may_be b d) (sym u ∙ e) ∙ possible-of kind w k d (record { ma = ma; va = va; mb = mb; vb = vb }) A l) tt;
+        possible = subst T (ap (λ (b : OutputBit). may_be b d) (sym u ∙ e) ∙ possible-of kind w k d (record { a = record { mask = ma; value = va }; b = record { mask = mb; value = vb } }) A l) tt;
       }

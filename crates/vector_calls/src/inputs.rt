@@ -7,8 +7,9 @@ ghost use Rattle.vector_calls.specs.Calls.{product_bit_checks};
 ghost use Rattle.vector_calls.specs.Witnesses.{kind_faults, operation_faults};
 ghost use Rattle.vector_calls.specs.Ranges.{end_faults, input_faults};
 
+use checks::refusals::Reason;
 use checks::rows::{check_bit, check_two_vectors, check_vector, check_width};
-use checks::{Verdict, first_refusal, refusals, refuse};
+use checks::{Verdict, first_refusal, refuse};
 use witness_search::is_add_sub_mul;
 
 // What product_bit refuses.
@@ -25,9 +26,9 @@ fn check_kind(kind: u32) -> Verdict
     ensures { verdict_model result ≡ judged (placed 0 (kind_faults kind)) }
 {
     if is_add_sub_mul(kind) {
-        return Verdict::Passed;
+        return Ok(());
     }
-    refuse(refusals::KIND, 0)
+    refuse(Reason::Kind, 0)
 }
 
 // What witnesses refuses before it looks at the bit.
@@ -55,25 +56,19 @@ fn check_ends(width: u32, low: u64, high: u64) -> Verdict
     ensures { verdict_model result ≡ judged (placed 0 (end_faults width low high)) }
 {
     if high < low {
-        return refuse(refusals::ENDS, 0);
+        return refuse(Reason::Ends, 0);
     }
     if 1u64 << width <= high {
-        return refuse(refusals::ENDS, 0);
+        return refuse(Reason::Ends, 0);
     }
-    Verdict::Passed
+    Ok(())
 }
 
 // Checks 4, 5 and 17.
 pub fn check_range(width: u32, mask: u32, value: u32, low: u64, high: u64) -> Verdict
     ensures { verdict_model result ≡ judged (placed 0 (input_faults width mask value low high)) }
 {
-    let found = check_width(width, 0);
-    match found {
-        Verdict::Refused(_) => {
-            return found;
-        }
-        Verdict::Passed => {}
-    }
+    check_width(width, 0)?;
     let vector = check_vector(width, mask, value, 0);
     let ends = check_ends(width, low, high);
     first_refusal(vector, ends)

@@ -1,6 +1,7 @@
 -- Vectors (01, "Vectors and rows"). A row of a table is a vector: the term that 01 coins for its width, mask and value.
 --   Row            a width, a mask and a value; a mask bit that is 1 means unknown, else the value bit is the bit
 --   row w m v      the row that is made of these
+--   row_of w v     the row of width w that a vector of the code stands for
 --   WellFormed r   mask and value share no set bit, and neither has a bit at or above the width
 --   Covers r n     n is a plain number below 2 ^ width that agrees with r at every known bit
 --   Inside p q     01's term: q covers all that p covers
@@ -9,6 +10,7 @@
 use Rattle.std.specs.Prelude.{◌≡◌, ℕ, ◌^◌, ◌<◌}
 use Rattle.std.specs.Int.Count.{ones_in}
 use Rattle.bits.specs.Bit.{bit}
+use Rattle.vectors.specs.declared.Vector.{Vector}
 
 pub record Row : Type 0 where
   pub width : ℕ
@@ -17,6 +19,9 @@ pub record Row : Type 0 where
 
 abbrev pub row : ℕ → ℕ → ℕ → Row
 row w m v = record { width = w; mask = m; value = v }
+
+abbrev pub row_of : ℕ → Vector → Row
+row_of w v = row w v.mask v.value
 
 -- "It is well formed if m and v share no set bit and neither has a bit at or above w": a number below 2 ^ w has none.
 pub record WellFormed (r : Row) : Type 0 where

@@ -2,18 +2,18 @@
 #![tactic(auto)]
 
 ghost use Rattle.std.specs.Prelude.{◌≡◌, ℕ, ◌/◌, ◌%◌, ◌^◌, ◌<◌};
-ghost use Rattle.vectors.specs.Row.{row};
+ghost use Rattle.vectors.specs.Row.{row_of};
 ghost use Rattle.vectors.specs.OutputBits.{output_bit};
 
 // Mask and value of a vector; the width stands beside it.
-#[derive(Clone, Copy)]
+#[derive(Clone, Copy, PartialEq, Eq)]
 pub struct Vector {
     pub mask: u32,
     pub value: u32,
 }
 
 // One bit of a result: known as 0, known as 1, or unknown.
-#[derive(Clone, Copy)]
+#[derive(Clone, Copy, PartialEq, Eq)]
 pub enum OutputBit {
     Zero,
     One,
@@ -22,32 +22,36 @@ pub enum OutputBit {
 
 // Bit k of a vector, whatever its width.
 #[tactic(auto, using(crate::proofs::Told::told_unknown, crate::proofs::Told::told_one, crate::proofs::Told::told_zero))]
-pub fn bit_of(m: u32, v: u32, k: u32) -> OutputBit
+pub fn bit_of(x: Vector, k: u32) -> OutputBit
     requires { k < 32 }
-    ensures { (w : ℕ) → result ≡ output_bit (row w m v) k }
+    ensures { (w : ℕ) → result ≡ output_bit (row_of w x) k }
 {
-    if (m >> k) & 1 == 1 {
+    if (x.mask >> k) & 1 == 1 {
         return OutputBit::Unknown;
     }
-    if (v >> k) & 1 == 1 {
+    if (x.value >> k) & 1 == 1 {
         return OutputBit::One;
     }
     OutputBit::Zero
 }
 
 // A vector as one word: a function hands a word over in a register, a vector through memory.
-pub fn pack(v: Vector) -> u64
-    ensures { (result % 2 ^ 32 ≡ v.mask) × (result / 2 ^ 32 ≡ v.value) }
-{
-    (v.mask as u64) + (v.value as u64) * 4294967296
+impl From<Vector> for u64 {
+    ghost from_gives = { λ v r. (r % 2 ^ 32 ≡ v.mask) × (r / 2 ^ 32 ≡ v.value) };
+
+    fn from(v: Vector) -> u64 {
+        (v.mask as u64) + (v.value as u64) * 4294967296
+    }
 }
 
 // The vector of such a word.
-pub fn unpack(r: u64) -> Vector
-    ensures { (result.mask ≡ r % 2 ^ 32) × (result.value ≡ r / 2 ^ 32) }
-{
-    Vector {
-        mask: (r % 4294967296) as u32,
-        value: (r / 4294967296) as u32,
+impl From<u64> for Vector {
+    ghost from_gives = { λ r v. (v.mask ≡ r % 2 ^ 32) × (v.value ≡ r / 2 ^ 32) };
+
+    fn from(r: u64) -> Vector {
+        Vector {
+            mask: (r % 4294967296) as u32,
+            value: (r / 4294967296) as u32,
+        }
     }
 }

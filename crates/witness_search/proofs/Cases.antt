@@ -15,7 +15,7 @@ use Rattle.bits.proofs.Bits.{bit-or}
 use Rattle.bits.proofs.Bools.{eq→eqb}
 use Rattle.bits.proofs.Constants.{bit-placed, bit-placed-other}
 use Rattle.bits.proofs.LowestBit.{lowest, clear_at, clear-other, clear-less}
-use Rattle.vectors.specs.Row.{Row, row, WellFormed, Covers, Inside}
+use Rattle.vectors.specs.Row.{Row, row, row_of, WellFormed, Covers, Inside}
 use Rattle.vectors.specs.Choice.{Chosen}
 use Rattle.vectors.proofs.Apart.{chosen-place, apart-place}
 use Rattle.vectors.proofs.Narrowed.{Narrows, narrowed-formed, narrowed-inside, narrowed-apart}
@@ -57,21 +57,21 @@ module _ (w m v : ℕ) (l : m < 2 ^ 32) (F : WellFormed (row w m v)) (n : m ≢ 
 -- ---- two vectors
 
 pub record Halves (w : ℕ) (o : Operands) (c : ℕ → Operands) : Type 0 where
-  pub formed : (b : ℕ) → b < 2 → Formed w (c b).ma (c b).va (c b).mb (c b).vb
+  pub formed : (b : ℕ) → b < 2 → Formed w (c b).a.mask (c b).a.value (c b).b.mask (c b).b.value
   pub inside : (b : ℕ) → b < 2 → (ns : List ℕ) → Chosen (rows_of w (c b)) ns → Chosen (rows_of w o) ns
   pub either : (ns : List ℕ) → Chosen (rows_of w o) ns → Chosen (rows_of w (c 0)) ns ⊎ Chosen (rows_of w (c 1)) ns
-  pub less : (b : ℕ) → (c b).ma + (c b).mb < o.ma + o.mb
+  pub less : (b : ℕ) → (c b).a.mask + (c b).b.mask < o.a.mask + o.b.mask
 
-module _ (w : ℕ) (o : Operands) (F : Formed w o.ma o.va o.mb o.vb) where
+module _ (w : ℕ) (o : Operands) (F : Formed w o.a.mask o.a.value o.b.mask o.b.value) where
   word : (m v : ℕ) → WellFormed (row w m v) → m < 2 ^ 32
   word m v G = lt_of_lt_of_le G.mask_below (pow_mono F.most)
 
-  first_halves : o.ma ≢ 0 → Halves w o (first_case o)
+  first_halves : o.a.mask ≢ 0 → Halves w o (first_case o)
   first_halves n =
-      let m = o.ma in
-      let v = o.va in
+      let m = o.a.mask in
+      let v = o.a.value in
       let l = word m v F.first in
-      let second = row w o.mb o.vb ∷ [] in
+      let second = row_of w o.b ∷ [] in
       record {
         formed = λ b h. record { most = F.most; first = lowest-formed w m v l F.first n b h; second = F.second };
         inside = λ b h. chosen-place [] second _ (row w m v) (lowest-inside w m v l F.first n b h);
@@ -79,12 +79,12 @@ module _ (w : ℕ) (o : Operands) (F : Formed w o.ma o.va o.mb o.vb) where
         less = λ b. omega (arith, clear-less m n);
       }
 
-  second-halves : o.mb ≢ 0 → Halves w o (second_case o)
+  second-halves : o.b.mask ≢ 0 → Halves w o (second_case o)
   second-halves n =
-      let m = o.mb in
-      let v = o.vb in
+      let m = o.b.mask in
+      let v = o.b.value in
       let l = word m v F.second in
-      let first = row w o.ma o.va ∷ [] in
+      let first = row_of w o.a ∷ [] in
       record {
         formed = λ b h. record { most = F.most; first = F.first; second = lowest-formed w m v l F.second n b h };
         inside = λ b h. chosen-place first [] _ (row w m v) (lowest-inside w m v l F.second n b h);
@@ -94,8 +94,8 @@ module _ (w : ℕ) (o : Operands) (F : Formed w o.ma o.va o.mb o.vb) where
 
   pub halves : UnknownLeft o → Halves w o (case_of o)
   unfolding case_of
-  halves u = go (eqb o.ma 0) (eqb→eq o.ma 0) (λ e. eq→eqb e)
+  halves u = go (eqb o.a.mask 0) (eqb→eq o.a.mask 0) (λ e. eq→eqb e)
     where
-      go : (t : Bool) → (T t → o.ma ≡ 0) → (o.ma ≡ 0 → T t) → Halves w o (λ b. cond t (second_case o b) (first_case o b))
+      go : (t : Bool) → (T t → o.a.mask ≡ 0) → (o.a.mask ≡ 0 → T t) → Halves w o (λ b. cond t (second_case o b) (first_case o b))
       go true a b = second-halves (λ e. u (a tt) e)
       go false a b = first_halves (λ e. b e)

@@ -23,7 +23,7 @@ use Rattle.witness_search.specs.Search.{rows_of, case_of, UnknownLeft, may_be, A
 use Rattle.witness_search.proofs.Possible.{told-may}
 use Rattle.witness_search.proofs.Cases.{Halves, halves}
 
-both-formed : (w : ℕ) (o : Operands) → Formed w o.ma o.va o.mb o.vb → All WellFormed (rows_of w o)
+both-formed : (w : ℕ) (o : Operands) → Formed w o.a.mask o.a.value o.b.mask o.b.value → All WellFormed (rows_of w o)
 both-formed w o F = (F.first, (F.second, tt))
 
 -- ---- an output bit of an operation
@@ -77,10 +77,10 @@ module _ (kind w k d : ℕ) (o : Operands) (S : Sought kind w k d o) (u : Unknow
 
 -- ---- the end
 
-pub last-choice : (kind w k d : ℕ) (o : Operands) → Sought kind w k d o → o.ma ≡ 0 → o.mb ≡ 0 → Makes (plain_of kind w) (rows_of w o) k d (o.va ∷ o.vb ∷ [])
+pub last-choice : (kind w k d : ℕ) (o : Operands) → Sought kind w k d o → o.a.mask ≡ 0 → o.b.mask ≡ 0 → Makes (plain_of kind w) (rows_of w o) k d (o.a.value ∷ o.b.value ∷ [])
 last-choice kind w k d o S a b =
     let g = may-elim w (plain_of kind w) (rows_of w o) d k S.possible in
-    let e : g.numbers ≡ o.va ∷ o.vb ∷ [] = known-chosen (rows_of w o) g.numbers (both-formed w o S.asked.formed) (a, (b, tt)) g.chosen in
+    let e : g.numbers ≡ o.a.value ∷ o.b.value ∷ [] = known-chosen (rows_of w o) g.numbers (both-formed w o S.asked.formed) (a, (b, tt)) g.chosen in
     record {
       covered = subst (Chosen (rows_of w o)) e g.chosen;
       makes = ap (λ (ns : List ℕ). bit (plain_of kind w ns) k) (sym e) ∙ g.gives;

@@ -11,7 +11,7 @@
 use Rattle.std.specs.Prelude.{◌≡◌, Bool, true, cond, List, [], ◌∷◌, ℕ, ◌+◌, ◌-◌, ◌*◌, ◌^◌, ◌<◌, T, eqb}
 use Rattle.std.specs.Int.Bits.{bit_and, bit_or}
 use Rattle.std.specs.Int.Count.{count_trailing_zeros}
-use Rattle.vectors.specs.Row.{Row, row}
+use Rattle.vectors.specs.Row.{Row, row_of}
 use Rattle.vectors.specs.Choice.{Chosen}
 use Rattle.vectors.specs.Best.{may}
 use Rattle.vectors.specs.declared.OutputBit.{OutputBit}
@@ -21,7 +21,7 @@ use Rattle.witness_search.specs.declared.Operands.{Operands}
 use Rattle.witness_search.specs.Witness.{add_sub_mul, plain_of}
 
 abbrev pub rows_of : ℕ → Operands → List Row
-rows_of w o = row w o.ma o.va ∷ row w o.mb o.vb ∷ []
+rows_of w o = row_of w o.a ∷ row_of w o.b ∷ []
 
 abbrev pub lowest_cleared : ℕ → ℕ
 lowest_cleared m = bit_and m (m - 1)
@@ -30,16 +30,16 @@ abbrev pub lowest_as : ℕ → ℕ → ℕ → ℕ
 lowest_as m v b = bit_or v (b * 2 ^ count_trailing_zeros 32 m)
 
 abbrev pub first_case : Operands → ℕ → Operands
-first_case o b = record { ma = lowest_cleared o.ma; va = lowest_as o.ma o.va b; mb = o.mb; vb = o.vb }
+first_case o b = record { a = record { mask = lowest_cleared o.a.mask; value = lowest_as o.a.mask o.a.value b }; b = o.b }
 
 abbrev pub second_case : Operands → ℕ → Operands
-second_case o b = record { ma = o.ma; va = o.va; mb = lowest_cleared o.mb; vb = lowest_as o.mb o.vb b }
+second_case o b = record { a = o.a; b = record { mask = lowest_cleared o.b.mask; value = lowest_as o.b.mask o.b.value b } }
 
 unfoldable pub case_of : Operands → ℕ → Operands
-case_of o b = cond (eqb o.ma 0) (second_case o b) (first_case o b)
+case_of o b = cond (eqb o.a.mask 0) (second_case o b) (first_case o b)
 
 abbrev pub UnknownLeft : Operands → Type 0
-UnknownLeft o = o.ma ≡ 0 → o.mb ≡ 0 → ⊥
+UnknownLeft o = o.a.mask ≡ 0 → o.b.mask ≡ 0 → ⊥
 
 abbrev pub may_be : OutputBit → ℕ → Bool
 may_be Zero d = eqb d 0
@@ -48,7 +48,7 @@ may_be Unknown d = true
 
 pub record Asked (kind w k : ℕ) (o : Operands) : Type 0 where
   pub kind_is : T (add_sub_mul kind)
-  pub formed : Formed w o.ma o.va o.mb o.vb
+  pub formed : Formed w o.a.mask o.a.value o.b.mask o.b.value
   pub below : k < w
 
 pub record Sought (kind w k d : ℕ) (o : Operands) : Type 0 where
@@ -59,4 +59,4 @@ pub record Sought (kind w k d : ℕ) (o : Operands) : Type 0 where
 pub record Narrower (kind w k d : ℕ) (o r : Operands) : Type 0 where
   pub sought : Sought kind w k d r
   pub inside : (ns : List ℕ) → Chosen (rows_of w r) ns → Chosen (rows_of w o) ns
-  pub less : r.ma + r.mb < o.ma + o.mb
+  pub less : r.a.mask + r.b.mask < o.a.mask + o.b.mask

@@ -6,40 +6,28 @@ ghost use Rattle.std.specs.Prelude.{◌≡◌, [], ◌∷◌, ◌≤◌, ◌<◌
 ghost use Rattle.vectors.specs.OutputBits.{output_bit};
 ghost use Rattle.operations.specs.Kinds.{kind_of};
 ghost use Rattle.operations.specs.Result.{result_of};
-ghost use Rattle.witness_search.specs.Witness.{add_sub_mul, plain_of, Makes};
+ghost use Rattle.witness_search.specs.Witness.{add_sub_mul, number_of, plain_of, Makes};
 ghost use Rattle.witness_search.specs.Search.{rows_of, lowest_cleared, lowest_as, case_of, may_be, UnknownLeft, Asked, Sought, Narrower};
 
+use arithmetic::Arithmetic;
 use products::product_bit_unchecked;
 use sums::{add, sub};
 use vectors::{OutputBit, Vector, bit_of};
 
-// The kinds of which operands are sought.
-const ADD: u32 = 13;
+pub mod arithmetic; // arithmetic.rt: the kinds of which operands are sought
 
-const SUB: u32 = 14;
-
-const MUL: u32 = 16;
-
-// Whether the kind is one of them.
+// Whether the kind is one of which operands are sought.
 pub fn is_add_sub_mul(kind: u32) -> bool
     ensures { result ≡ add_sub_mul kind }
 {
-    if kind == ADD {
-        return true;
-    }
-    if kind == SUB {
-        return true;
-    }
-    kind == MUL
+    Arithmetic::try_from(kind).is_ok()
 }
 
 // Two vectors of one width.
 #[derive(Clone, Copy)]
 pub struct Operands {
-    pub ma: u32,
-    pub va: u32,
-    pub mb: u32,
-    pub vb: u32,
+    pub a: Vector,
+    pub b: Vector,
 }
 
 // Two plain operands.
@@ -50,29 +38,25 @@ pub struct Pair {
 }
 
 // Bit k of the operation's result.
-pub fn operation_bit(kind: u32, w: u32, o: Operands, k: u32) -> OutputBit
-    requires { Asked kind w k o }
-    ensures { result ≡ output_bit (result_of (kind_of kind) w 0 (rows_of w o)) k }
+pub fn operation_bit(kind: Arithmetic, w: u32, o: Operands, k: u32) -> OutputBit
+    requires { Asked (number_of kind) w k o }
+    ensures { result ≡ output_bit (result_of (kind_of (number_of kind)) w 0 (rows_of w o)) k }
 {
-    if kind == MUL {
-        return product_bit_unchecked(o.ma, o.va, o.mb, o.vb, k);
+    match kind {
+        Arithmetic::Add => bit_of(add(w, o.a, o.b), k),
+        Arithmetic::Sub => bit_of(sub(w, o.a, o.b), k),
+        Arithmetic::Mul => product_bit_unchecked(o.a, o.b, k),
     }
-    if kind == ADD {
-        let sum = add(w, o.ma, o.va, o.mb, o.vb);
-        return bit_of(sum.mask, sum.value, k);
-    }
-    let difference = sub(w, o.ma, o.va, o.mb, o.vb);
-    bit_of(difference.mask, difference.value, k)
 }
 
 // The vector with its lowest unknown bit known as b.
-fn lowest_as(m: u32, v: u32, b: u32) -> Vector
-    requires { (1 ≤ m) × (b < 2) }
-    ensures { (result.mask ≡ lowest_cleared m) × (result.value ≡ lowest_as m v b) }
+fn lowest_as(x: Vector, b: u32) -> Vector
+    requires { (1 ≤ x.mask) × (b < 2) }
+    ensures { (result.mask ≡ lowest_cleared x.mask) × (result.value ≡ lowest_as x.mask x.value b) }
 {
     Vector {
-        mask: m & (m - 1),
-        value: v | (b << u32::trailing_zeros(m)),
+        mask: x.mask & (x.mask - 1),
+        value: x.value | (b << u32::trailing_zeros(x.mask)),
     }
 }
 
@@ -81,22 +65,12 @@ fn case_of(o: Operands, b: u32) -> Operands
     requires { (b < 2) × UnknownLeft o }
     ensures { result ≡ case_of o b }
 {
-    if o.ma == 0 {
-        let second = lowest_as(o.mb, o.vb, b);
-        return Operands {
-            ma: o.ma,
-            va: o.va,
-            mb: second.mask,
-            vb: second.value,
-        };
+    if o.a.mask == 0 {
+        let second = lowest_as(o.b, b);
+        return Operands { a: o.a, b: second };
     }
-    let first = lowest_as(o.ma, o.va, b);
-    Operands {
-        ma: first.mask,
-        va: first.value,
-        mb: o.mb,
-        vb: o.vb,
-    }
+    let first = lowest_as(o.a, b);
+    Operands { a: first, b: o.b }
 }
 
 // Whether an output bit leaves d possible.
@@ -111,9 +85,9 @@ fn may_be(found: OutputBit, d: u32) -> bool
 }
 
 // One unknown bit less, with d still possible.
-fn narrowed(kind: u32, w: u32, o: Operands, k: u32, d: u32) -> Operands
-    requires { Sought kind w k d o × UnknownLeft o }
-    ensures { Narrower kind w k d o result }
+fn narrowed(kind: Arithmetic, w: u32, o: Operands, k: u32, d: u32) -> Operands
+    requires { Sought (number_of kind) w k d o × UnknownLeft o }
+    ensures { Narrower (number_of kind) w k d o result }
 {
     let zero = case_of(o, 0);
     let one = case_of(o, 1);
@@ -124,13 +98,16 @@ fn narrowed(kind: u32, w: u32, o: Operands, k: u32, d: u32) -> Operands
 }
 
 // Two plain operands that make bit k of the operation's result d, where d is possible.
-pub fn witness(kind: u32, w: u32, o: Operands, k: u32, d: u32) -> Pair
-    requires { Sought kind w k d o }
-    ensures { Makes (plain_of kind w) (rows_of w o) k d (result.a ∷ result.b ∷ []) }
+pub fn witness(kind: Arithmetic, w: u32, o: Operands, k: u32, d: u32) -> Pair
+    requires { Sought (number_of kind) w k d o }
+    ensures { Makes (plain_of (number_of kind) w) (rows_of w o) k d (result.a ∷ result.b ∷ []) }
 {
     let mut at = o;
-    while at.ma | at.mb != 0 {
+    while at.a.mask | at.b.mask != 0 {
         at = narrowed(kind, w, at, k, d);
     }
-    Pair { a: at.va, b: at.vb }
+    Pair {
+        a: at.a.value,
+        b: at.b.value,
+    }
 }

@@ -1,7 +1,6 @@
 -- `clocks::settle_in` meets its contract: the start rows are the first of the room. Assumes nothing.
 use mathlib.Core.Path.{sym}
 use lib.Seq.{length-take-le}
-use borrow.Author.Rules.{rules}
 use Rattle.clocks.proofs.settle_in.Goals as goal
 
 pub slice_bounds-settle_rounds-end-2 : goal.slice_bounds-settle_rounds-end-2

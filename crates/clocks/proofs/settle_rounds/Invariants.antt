@@ -1,18 +1,9 @@
 -- `clocks::settle_rounds` meets its contract. The invariant: the rows are those from which the next round starts, and no round before it was the last. Assumes nothing.
-use mathlib.Core.Path.{◌≡◌, sym, ap, subst, ◌∙◌}
-use mathlib.Core.List.{List}
-use Prim.Native.Nat.{ℕ, ◌+◌, ◌-◌}
-use native.Mathlib.Omega.{arith}
-use Rattle.checks.specs.Table.{State, Table, record_count}
+use mathlib.Core.Path.{◌≡◌}
+use Prim.Native.Nat.{◌-◌}
 use Rattle.checks.specs.Model.{lent}
-use Rattle.steps.specs.Step.{after}
-use Rattle.steps.specs.States.{StateFits, held}
-use Rattle.steps.proofs.Copies.{copyable}
-use Rattle.tables.specs.Run.{program_of}
-use Rattle.tables.specs.Encoding.{StretchReady}
-use Rattle.tables.proofs.Demand3.{start_fits}
+use Rattle.steps.specs.States.{held}
 use Rattle.rounds.specs.Clock.{pairs_of, state_bits}
-use Rattle.rounds.proofs.RoundTurns as turns
 use Rattle.rounds.proofs.RoundTurns.{AtRound}
 use Rattle.clocks.proofs.settle_rounds.Given as goal
 

@@ -1,8 +1,9 @@
 -- `below_lowest` meets its contract. Assumes nothing.
+use Rattle.std.proofs.Common.{◌+◌, ◌-◌, ◌%◌, ◌^◌, arith}
 use Rattle.columns.proofs.Ends.{below-lowest-set}
 use Rattle.columns.proofs.below_lowest.Goals as goal
 
 pub returns : goal.returns
 returns c =
-    let d = c.wrapping_sub_u32 in
-    below-lowest-set c.args.x d.result c.ranges.x.fits d.type_inv d.ensures.value
+    let x = c.args.x in
+    below-lowest-set x ((x + (2 ^ 32 - 1)) % 2 ^ 32) c.ranges.x.fits (omega arith) (omega arith)

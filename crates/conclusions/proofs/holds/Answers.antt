@@ -3,10 +3,10 @@ use mathlib.Core.Path.{sym, ◌∙◌}
 use borrow.Author.Tests.{ne_eqb}
 use Rattle.conclusions.proofs.holds.Goals as goal
 
-pub returns-then-bit_at-ne0 : goal.returns-then-bit_at-ne0
-returns-then-bit_at-ne0 c = simp (ne_eqb _ _ c.if-bit_at-ne0.true, sym c.bit_at.ensures)
+pub returns-else-bit_at-eq0 : goal.returns-else-bit_at-eq0
+returns-else-bit_at-eq0 c = simp (ne_eqb _ _ c.if-bit_at-eq0.false, sym c.bit_at.ensures)
 
-pub returns : goal.returns
-returns c =
-    let e = sym c.bit_at.ensures ∙ c.if-bit_at-ne0.false in
-    simp (e, sym c.bit_at-2.ensures)
+pub returns-then-bit_at-eq0 : goal.returns-then-bit_at-eq0
+returns-then-bit_at-eq0 c =
+    let e = sym c.bit_at.ensures ∙ c.if-bit_at-eq0.true in
+    simp (e, sym c.bit_at-then-bit_at-eq0.ensures)

@@ -4,7 +4,6 @@ use native.Mathlib.Omega.{arith}
 use lib.Seq.{length-take-le}
 use Rattle.evaluation.proofs.Printed.{printed-as}
 use Rattle.evaluation.proofs.Inputs.{held-prints}
-use borrow.Author.Rules.{rules}
 use Rattle.evaluation.proofs.evaluate_input.Goals as goal
 
 pub slice_bounds-evaluate_text-end : goal.slice_bounds-evaluate_text-end

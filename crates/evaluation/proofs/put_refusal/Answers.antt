@@ -5,7 +5,6 @@ use Rattle.grammar.specs.Print.{decimal}
 use Rattle.printing.proofs.Puts.{begin, step, room, done}
 use Rattle.evaluation.specs.Evaluate.{refused_line}
 use Rattle.evaluation.proofs.Lines.{first_part, tab_part, end_part, line-parts, line-fits, printed-of-put}
-use borrow.Author.Rules.{rules}
 use Rattle.evaluation.proofs.put_refusal.Goals as goal
 
 pub put_number-after_number-requires : goal.put_number-after_number-requires

@@ -8,10 +8,10 @@ use Rattle.memories.proofs.load_to.Goals as goal
 pub load-r-requires : goal.load-r-requires
 load-r-requires c =
     code-ready c.args.width.now (held c.args.mask.now c.args.value.now) c.requires.0 c.args.t c.args.a c.args.base c.args.n c.requires.1
-    c.wide.result c.wide-2.result (c.args.base + c.args.n - c.args.base) c.wide.ensures c.wide-2.ensures (omega arith)
+    (c.args.base + c.args.n - c.args.base) (omega arith)
 
 pub returns : goal.returns
 returns c =
     code_step c.args.width.now (held c.args.mask.now c.args.value.now) c.requires.0 c.args.t c.args.a c.args.base c.args.n c.requires.1
-    c.wide.result c.wide-2.result (c.args.base + c.args.n - c.args.base) c.wide.ensures c.wide-2.ensures (omega arith)
+    (c.args.base + c.args.n - c.args.base) (omega arith)
     c.load-r.result.mask c.load-r.result.value c.load-r.ensures

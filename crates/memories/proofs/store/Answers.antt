@@ -6,31 +6,28 @@ use Rattle.memories.proofs.store.Goals as goal
 
 pub returns-then-n-x : goal.returns-then-n-x
 returns-then-n-x c =
-    store-past c.args.width.now (held c.args.mask.now c.args.value.now) c.args.a c.args.d c.args.base c.args.n c.requires.0 c.requires.1 (let e = c.index-x.ensures in let h = c.if-n-x.true in omega arith)
+    store-past c.args.width.now (held c.args.mask.now c.args.value.now) c.args.a c.args.d c.args.base c.args.n c.requires.0 c.requires.1 c.if-n-x.true
 
-pub returns-then-ma-eq0 : goal.returns-then-ma-eq0
-returns-then-ma-eq0 c =
+pub returns-then-address-eq0 : goal.returns-then-address-eq0
+returns-then-address-eq0 c =
     store-one c.args.width.now (held c.args.mask.now c.args.value.now) c.args.a c.args.d c.args.base c.args.n c.requires.0 c.requires.1
-    c.index-x.result c.index-x.ensures c.if-ma-eq0.true c.if-n-x.false
+    c.if-address-eq0.true c.if-n-x.false
 
 pub loop-i-init : goal.loop-i-init
 loop-i-init c =
     storing-start c.args.width.now (held c.args.mask.now c.args.value.now) c.args.a c.args.d c.args.base c.args.n c.requires.0 c.requires.1
-    c.index-x.result c.index-unknown.result c.index-top.result c.named_end-end.result
-    c.index-x.ensures c.index-unknown.ensures c.index-top.ensures c.named_end-end.ensures c.if-n-x.false c.if-ma-eq0.false
+    c.named_end-end.result c.named_end-end.ensures c.if-n-x.false c.if-address-eq0.false
 
 pub loop-i-preserved : goal.loop-i-preserved
 loop-i-preserved c = (
   omega arith,
   storing-turn c.args.width.now (held c.args.mask.now c.args.value.now) c.args.a c.args.d c.args.base c.args.n c.requires.0 c.requires.1
-      c.index-x.result c.index-unknown.result c.index-top.result c.named_end-end.result
-      c.index-x.ensures c.index-unknown.ensures c.index-top.ensures c.named_end-end.ensures c.if-n-x.false c.if-ma-eq0.false
+      c.named_end-end.result c.named_end-end.ensures c.if-n-x.false c.if-address-eq0.false
       c.loop-i.i c.loop-i-test.true (held c.loop-i.mask c.loop-i.value) c.loop-i.invariant.1 c.join_if-r.result.mask c.join_if-r.result.value c.join_if-r.ensures,
 )
 
 pub returns : goal.returns
 returns c =
     storing-end c.args.width.now (held c.args.mask.now c.args.value.now) c.args.a c.args.d c.args.base c.args.n c.requires.0 c.requires.1
-    c.index-x.result c.index-unknown.result c.index-top.result c.named_end-end.result
-    c.index-x.ensures c.index-unknown.ensures c.index-top.ensures c.named_end-end.ensures c.if-n-x.false c.if-ma-eq0.false
+    c.named_end-end.result c.named_end-end.ensures c.if-n-x.false c.if-address-eq0.false
     c.loop-i.i c.loop-i-test.false c.loop-i.invariant.0 (held c.loop-i.mask c.loop-i.value) c.loop-i.invariant.1

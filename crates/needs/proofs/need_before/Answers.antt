@@ -7,33 +7,30 @@ use Rattle.needs.proofs.RowWords.{writes-row, first_in, data-in, second_in, sixt
 use Rattle.needs.proofs.need_before.Goals as goal
 
 pub bounds-need-address : goal.bounds-need-address
-bounds-need-address c = first_in c.args.r c.requires.1 _ c.index-address.ensures
+bounds-need-address c = first_in c.args.r c.requires.1
 
 pub bounds-need-data : goal.bounds-need-data
 bounds-need-data c =
-    let d = data-in c.args.r c.requires.1 _ c.if-r-eq-STORE.true c.index-data.ensures in
-    let l = length-set c.args.need.now c.index-address.result 1 in
+    let d = data-in c.args.r c.requires.1 c.if-r-eq-STORE.true in
+    let l = length-set c.args.need.now c.args.r.a 1 in
     omega arith
 
 pub returns-then-r-eq-STORE : goal.returns-then-r-eq-STORE
 returns-then-r-eq-STORE c =
-    store-marked c.args.r c.requires.1.known c.args.need.now c.if-r-eq-STORE.true _ _ c.index-address.ensures c.index-data.ensures
+    store-marked c.args.r c.requires.1.known c.args.need.now c.if-r-eq-STORE.true
 
 pub bounds-need-t : goal.bounds-need-t
-bounds-need-t c =
-    let h = c.requires.1.targets_in.row_in (writes-row c.args.r c.requires.1.known c.if-r-eq-STORE.false) in
-    let e = c.index-t.ensures in
-    omega arith
+bounds-need-t c = c.requires.1.targets_in.row_in (writes-row c.args.r c.requires.1.known c.if-r-eq-STORE.false)
 
 pub bounds-need-a : goal.bounds-need-a
 bounds-need-a c =
-    let f = first_in c.args.r c.requires.1 _ c.index-a.ensures in
-    let l = length-set c.args.need.now c.index-t.result 0 in
+    let f = first_in c.args.r c.requires.1 in
+    let l = length-set c.args.need.now c.args.r.t 0 in
     omega arith
 
 pub mark_span-requires : goal.mark_span-requires
 mark_span-requires c =
-    ((set-bytes (set c.args.need.now c.index-t.result 0) _ 1 (omega arith) (set-bytes c.args.need.now _ 0 (omega arith) c.requires.0)), still-in (length-set (set c.args.need.now c.index-t.result 0) c.index-a.result 1 ∙ length-set c.args.need.now c.index-t.result 0) (second_in c.args.r c.requires.1 _ _ c.index.ensures c.second_rows.ensures))
+    ((set-bytes (set c.args.need.now c.args.r.t 0) _ 1 (omega arith) (set-bytes c.args.need.now _ 0 (omega arith) c.requires.0)), still-in (length-set (set c.args.need.now c.args.r.t 0) c.args.r.a 1 ∙ length-set c.args.need.now c.args.r.t 0) (second_in c.args.r c.requires.1 _ c.second_rows.ensures))
 
 pub sixth_rows-requires : goal.sixth_rows-requires
 sixth_rows-requires c =
@@ -41,11 +38,11 @@ sixth_rows-requires c =
 
 pub mark_span-requires-2 : goal.mark_span-requires-2
 mark_span-requires-2 c = (
-  span-bytes (set (set c.args.need.now c.index-t.result 0) c.index-a.result 1) _ _ _ c.mark_span.ensures (set-bytes (set c.args.need.now c.index-t.result 0) _ 1 (omega arith) (set-bytes c.args.need.now _ 0 (omega arith) c.requires.0)),
-  still-in (span-length (set (set c.args.need.now c.index-t.result 0) c.index-a.result 1) _ _ _ c.mark_span.ensures ∙ (length-set (set c.args.need.now c.index-t.result 0) c.index-a.result 1 ∙ length-set c.args.need.now c.index-t.result 0)) (sixth_in c.args.r c.requires.1 _ _ c.index-2.ensures c.sixth_rows.ensures),
+  span-bytes (set (set c.args.need.now c.args.r.t 0) c.args.r.a 1) _ _ _ c.mark_span.ensures (set-bytes (set c.args.need.now c.args.r.t 0) _ 1 (omega arith) (set-bytes c.args.need.now _ 0 (omega arith) c.requires.0)),
+  still-in (span-length (set (set c.args.need.now c.args.r.t 0) c.args.r.a 1) _ _ _ c.mark_span.ensures ∙ (length-set (set c.args.need.now c.args.r.t 0) c.args.r.a 1 ∙ length-set c.args.need.now c.args.r.t 0)) (sixth_in c.args.r c.requires.1 _ c.sixth_rows.ensures),
 )
 
 pub returns : goal.returns
 returns c =
-    row-marked c.args.r c.requires.1.known c.args.need.now c.if-r-eq-STORE.false _ _ _ _ _ _ c.index-t.ensures c.index-a.ensures c.index.ensures
-    c.index-2.ensures c.second_rows.ensures c.sixth_rows.ensures _ _ c.mark_span.ensures c.mark_span-2.ensures
+    row-marked c.args.r c.requires.1.known c.args.need.now c.if-r-eq-STORE.false _ _
+    c.second_rows.ensures c.sixth_rows.ensures _ _ c.mark_span.ensures c.mark_span-2.ensures

@@ -1,11 +1,6 @@
 -- The invariant of `needs::take_marks`: the marks before i are taken over.
-use Prim.Native.Nat.{◌-◌}
-use lib.ListN.{length}
 use Rattle.needs.proofs.Taken.{Taken}
 use Rattle.needs.proofs.take_marks.Given as goal
 
 abbrev pub invariant-loop-i : goal.invariant-loop-i
 invariant-loop-i l = Taken l.marks l.initial.need l.need l.i
-
-abbrev pub decreases-loop-i : goal.decreases-loop-i
-decreases-loop-i l = length l.marks - l.i

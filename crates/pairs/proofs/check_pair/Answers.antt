@@ -1,5 +1,5 @@
 -- `pairs::check_pair` meets its contract: the conditions of 20, test by test. Assumes nothing.
-use mathlib.Core.Path.{◌≡◌, sym, ap, ◌∙◌}
+use mathlib.Core.Path.{refl, ◌≡◌, sym, ap, ◌∙◌}
 use mathlib.Core.Bool.{not, false}
 use mathlib.Core.List.{List, [], ◌∷◌}
 use Prim.Native.Nat.{ℕ, ◌<◌}
@@ -12,7 +12,7 @@ use Rattle.operations.specs.Faults.{Fault, fault}
 use Rattle.checks.specs.Check.{Answer, placed}
 use Rattle.checks.specs.Checks.{row_outside}
 use Rattle.checks.specs.Table.{Table}
-use Rattle.checks.specs.Model.{lent, judged}
+use Rattle.checks.specs.Model.{in_table, judged}
 use Rattle.checks.proofs.Verdicts.{hits, skips, clears}
 use Rattle.rounds.specs.Settle.{state_twice, written_row, pair_faults}
 use borrow.Author.Tests.{eq-eqb, ne_eqb, le-leb, lt-leb}
@@ -57,25 +57,25 @@ module _ (t : Table) (ss ns : List ℕ) (i x y : ℕ) (e : x ≡ get_or ss i 0) 
       → get_or t.locks x 0 ≢ 1 → asked ≡ after 5
   past_lock h g w d l = past_twice h g w d ∙ skips _ _ (ne_eqb _ _ l)
 
-pub returns-then-width-s : goal.returns-then-width-s
-returns-then-width-s c = c.refuse.ensures ∙ sym (named (lent c.args.width.now c.args.lock.now [] [] c.args.words.now) c.args.states.now c.args.nexts.now c.args.i c.index-s.result c.index-n.result c.index-s.ensures c.index-n.ensures ∙ hits _ _ (le-leb _ _ c.if-width-s.true))
+pub returns-then-t-s : goal.returns-then-t-s
+returns-then-t-s c = c.refuse.ensures ∙ sym (named (in_table c.args.t) c.args.states.now c.args.nexts.now c.args.i _ _ refl refl ∙ hits _ _ (le-leb _ _ c.if-t-s.true))
 
-pub returns-then-width-n : goal.returns-then-width-n
-returns-then-width-n c = c.refuse-then-width-n.ensures ∙ sym (past_state (lent c.args.width.now c.args.lock.now [] [] c.args.words.now) c.args.states.now c.args.nexts.now c.args.i c.index-s.result c.index-n.result c.index-s.ensures c.index-n.ensures c.if-width-s.false ∙ hits _ _ (le-leb _ _ c.if-width-n.true))
+pub returns-then-t-n : goal.returns-then-t-n
+returns-then-t-n c = c.refuse-then-t-n.ensures ∙ sym (past_state (in_table c.args.t) c.args.states.now c.args.nexts.now c.args.i _ _ refl refl c.if-t-s.false ∙ hits _ _ (le-leb _ _ c.if-t-n.true))
 
-pub returns-then-width-s-2 : goal.returns-then-width-s-2
-returns-then-width-s-2 c = c.refuse-then-width-s-2.ensures ∙ sym (past_next (lent c.args.width.now c.args.lock.now [] [] c.args.words.now) c.args.states.now c.args.nexts.now c.args.i c.index-s.result c.index-n.result c.index-s.ensures c.index-n.ensures c.if-width-s.false c.if-width-n.false ∙ hits _ _ (ap not (ne_eqb _ _ c.if-width-s-2.true)))
+pub returns-then-t-s-2 : goal.returns-then-t-s-2
+returns-then-t-s-2 c = c.refuse-then-t-s-2.ensures ∙ sym (past_next (in_table c.args.t) c.args.states.now c.args.nexts.now c.args.i _ _ refl refl c.if-t-s.false c.if-t-n.false ∙ hits _ _ (ap not (ne_eqb _ _ c.if-t-s-2.true)))
 
 pub returns-then-named_before : goal.returns-then-named_before
-returns-then-named_before c = c.refuse-then-named_before.ensures ∙ sym (past_widths (lent c.args.width.now c.args.lock.now [] [] c.args.words.now) c.args.states.now c.args.nexts.now c.args.i c.index-s.result c.index-n.result c.index-s.ensures c.index-n.ensures c.if-width-s.false c.if-width-n.false c.if-width-s-2.false ∙ hits _ _ (sym c.named_before.ensures ∙ c.if-named_before.true))
+returns-then-named_before c = c.refuse-then-named_before.ensures ∙ sym (past_widths (in_table c.args.t) c.args.states.now c.args.nexts.now c.args.i _ _ refl refl c.if-t-s.false c.if-t-n.false c.if-t-s-2.false ∙ hits _ _ (sym c.named_before.ensures ∙ c.if-named_before.true))
 
 pub written-requires : goal.written-requires
 written-requires c = c.requires.0.kinds
 
 pub returns-then-written : goal.returns-then-written
 unfolding written_row
-returns-then-written c = c.refuse-then-written.ensures ∙ sym (past_lock (lent c.args.width.now c.args.lock.now [] [] c.args.words.now) c.args.states.now c.args.nexts.now c.args.i c.index-s.result c.index-n.result c.index-s.ensures c.index-n.ensures c.if-width-s.false c.if-width-n.false c.if-width-s-2.false (sym c.named_before.ensures ∙ c.if-named_before.false) (omega arith) ∙ hits _ _ (sym c.written.ensures ∙ c.if-written.true))
+returns-then-written c = c.refuse-then-written.ensures ∙ sym (past_lock (in_table c.args.t) c.args.states.now c.args.nexts.now c.args.i _ _ refl refl c.if-t-s.false c.if-t-n.false c.if-t-s-2.false (sym c.named_before.ensures ∙ c.if-named_before.false) (omega arith) ∙ hits _ _ (sym c.written.ensures ∙ c.if-written.true))
 
 pub returns : goal.returns
 unfolding written_row
-returns c = sym (past_lock (lent c.args.width.now c.args.lock.now [] [] c.args.words.now) c.args.states.now c.args.nexts.now c.args.i c.index-s.result c.index-n.result c.index-s.ensures c.index-n.ensures c.if-width-s.false c.if-width-n.false c.if-width-s-2.false (sym c.named_before.ensures ∙ c.if-named_before.false) (omega arith) ∙ clears _ (sym c.written.ensures ∙ c.if-written.false))
+returns c = sym (past_lock (in_table c.args.t) c.args.states.now c.args.nexts.now c.args.i _ _ refl refl c.if-t-s.false c.if-t-n.false c.if-t-s-2.false (sym c.named_before.ensures ∙ c.if-named_before.false) (omega arith) ∙ clears _ (sym c.written.ensures ∙ c.if-written.false))

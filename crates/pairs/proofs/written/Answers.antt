@@ -2,19 +2,16 @@
 use mathlib.Core.Path.{◌≡◌, sym, ap, subst, ◌∙◌}
 use mathlib.Core.Bool.{Bool, false}
 use mathlib.Core.List.{List, []}
-use Prim.Native.Nat.{ℕ, ◌-◌, ◌/◌, ◌≤◌, ◌<◌}
+use Prim.Native.Nat.{ℕ}
 use native.Mathlib.Omega.{arith}
 use lib.Dec.{T, eqb}
-use lib.ListN.{length}
 use Rattle.bits.proofs.Below.{below_next, some_below-true, some_below-false}
 use Rattle.vectors.specs.Lists.{some_of}
-use Rattle.operations.specs.Limits.{record_words}
 use Rattle.operations.specs.Kinds.{is_kind}
 use Rattle.operations.specs.Record.{kind_word, target_rows}
 use Rattle.checks.specs.Table.{record_of}
 use Rattle.checks.specs.Model.{lent}
 use Rattle.rounds.specs.Settle.{written_row}
-use borrow.Author.Rules.{rules}
 use Rattle.pairs.proofs.written.Goals as goal
 
 abbrev test : List ℕ → ℕ → ℕ → Bool

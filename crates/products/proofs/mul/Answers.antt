@@ -8,4 +8,4 @@ pub packed_product-requires : goal.packed_product-requires
 packed_product-requires c = (c.requires.1.wide, formed-of c.requires.0 c.requires.1)
 
 pub returns : goal.returns
-returns c = ap₂ (row c.args.w) c.unpack.ensures.0 c.unpack.ensures.1 ∙ c.packed_product.ensures
+returns c = ap₂ (row c.args.w) c.from.ensures.0 c.from.ensures.1 ∙ c.packed_product.ensures

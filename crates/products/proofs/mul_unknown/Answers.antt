@@ -8,4 +8,4 @@ pub packed_unknown-requires : goal.packed_unknown-requires
 packed_unknown-requires c = (c.requires.1.wide, formed-of c.requires.0 c.requires.1)
 
 pub returns : goal.returns
-returns c = ap₂ (row c.args.w) c.unpack.ensures.0 c.unpack.ensures.1 ∙ c.packed_unknown.ensures
+returns c = ap₂ (row c.args.w) c.from.ensures.0 c.from.ensures.1 ∙ c.packed_unknown.ensures

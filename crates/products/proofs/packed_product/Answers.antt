@@ -10,6 +10,6 @@ width_mask-requires c = (c.requires.0, c.requires.1.most)
 pub returns-then-ma-mb-eq0 : goal.returns-then-ma-mb-eq0
 returns-then-ma-mb-eq0 c =
     let a = c.args in
-    ap₂ (row a.w) c.pack.ensures.0 c.pack.ensures.1
+    ap₂ (row a.w) c.from.ensures.0 c.from.ensures.1
     ∙ planes-known a.w a.ma a.va a.mb a.vb c.product.result c.width_mask.result c.requires.1 c.product.ensures c.width_mask.ensures
     c.if-ma-mb-eq0.true

@@ -10,6 +10,6 @@ width_mask-ones-requires c = (c.requires.0, c.requires.1.most)
 pub returns : goal.returns
 returns c =
     let a = c.args in
-    ap₂ (row a.w) c.pack.ensures.0 c.pack.ensures.1
+    ap₂ (row a.w) c.from.ensures.0 c.from.ensures.1
     ∙ planes-of a.w a.ma a.va a.mb a.vb c.unknown_below-unknown.result c.product.result c.requires.1 c.unknown_below-unknown.type_inv c.product.ensures c.unknown_below-unknown.ensures
     c.width_mask-ones.result c.width_mask-ones.ensures

@@ -19,7 +19,7 @@ pub unknown_left-unknown-requires : goal.unknown_left-unknown-requires
 unknown_left-unknown-requires c =
     let a = c.args in
     let g = c.requires in
-    granted-below a.ma a.va a.mb a.vb g.width _ g.formed (column-below a.k g.width (shifted_one 32 a.k (omega (arith, g.below, g.formed.most))) g.below)
+    granted-below a.a.mask a.a.value a.b.mask a.b.value g.width _ g.formed (column-below a.k g.width (shifted_one 32 a.k (omega (arith, g.below, g.formed.most))) g.below)
 
 pub bit_of-requires : goal.bit_of-requires
 bit_of-requires c = let g = c.requires in omega (arith, g.below, g.formed.most)
@@ -31,7 +31,7 @@ returns c w h F G =
     let x = g.width in
     let column = shifted_one 32 a.k (omega (arith, g.below, g.formed.most)) in
     c.bit_of.ensures x
-    ∙ column-told x a.ma a.va a.mb a.vb a.k c.unknown_left-unknown.result c.product.result g.formed g.below
-    (c.unknown_left-unknown.ensures x g.formed (column-below a.k x column g.below) ∙ ap (λ (n : ℕ). bit_and n (product_of x a.ma a.va a.mb a.vb).mask) column)
+    ∙ column-told x a.a.mask a.a.value a.b.mask a.b.value a.k c.unknown_left-unknown.result c.product.result g.formed g.below
+    (c.unknown_left-unknown.ensures x g.formed (column-below a.k x column g.below) ∙ ap (λ (n : ℕ). bit_and n (product_of x a.a.mask a.a.value a.b.mask a.b.value).mask) column)
     c.product.ensures
-    ∙ same_bit a.ma a.va a.mb a.vb a.k x w g.below h g.formed.first g.formed.second F G
+    ∙ same_bit a.a.mask a.a.value a.b.mask a.b.value a.k x w g.below h g.formed.first g.formed.second F G

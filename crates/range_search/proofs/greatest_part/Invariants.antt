@@ -7,6 +7,3 @@ use Rattle.range_search.proofs.greatest_part.Given as goal
 
 abbrev pub invariant-loop-k : goal.invariant-loop-k
 invariant-loop-k l = (l.k ≤ l.w) × ((l.part ≤ l.bound) × (l.part + part_below l.k l.m (l.bound - l.part) ≡ part_below l.w l.m l.bound))
-
-abbrev pub decreases-loop-k : goal.decreases-loop-k
-decreases-loop-k l = l.k

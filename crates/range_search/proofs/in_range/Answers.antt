@@ -5,7 +5,7 @@ use native.Mathlib.Omega.{arith}
 use Rattle.vectors.specs.Row.{row}
 use Rattle.vectors.specs.declared.Vector.{Vector}
 use Rattle.vectors.proofs.Rows.{top}
-use Rattle.range_search.specs.declared.InRange.TheVariants.{Found}
+use Rattle.std.specs.Prelude.{Some}
 use Rattle.range_search.proofs.Finding.{none_from, value_below, found}
 use Rattle.range_search.proofs.in_range.Goals as goal
 
@@ -20,5 +20,5 @@ pub returns : goal.returns
 returns c =
     let smallest = c.greatest_part in
     let largest = c.greatest_part-2 in
-    ap (λ (x : Vector). Found (record { mask = x.mask; value = x.value; smallest = top (row c.args.w c.args.m c.args.v) - smallest.result; largest = c.args.v + largest.result })) c.span-best.ensures
+    ap (λ (x : Vector). Some (record { mask = x.mask; value = x.value; smallest = top (row c.args.w c.args.m c.args.v) - smallest.result; largest = c.args.v + largest.result })) c.span-best.ensures
     ∙ found (row c.args.w c.args.m c.args.v) c.requires.1 c.args.low c.args.high smallest.result c.if-top-low.false smallest.ensures (omega arith) largest.result largest.ensures c.requires.0

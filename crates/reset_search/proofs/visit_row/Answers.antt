@@ -17,8 +17,7 @@ loop-k-init c =
 pub visit-requires : goal.visit-requires
 visit-requires c =
     let l = c.loop-k in
-    let h = c.loop-k-test.true in
-    let w = c.wide-w.ensures in (
+    let h = c.loop-k-test.true in (
       trial-ready (lent c.args.width.now c.args.lock.now c.args.mask.now c.args.value.now c.args.words.now) c.args.c _ _ c.requires.0 (held l.mask l.value) l.invariant.1.fits _ _ l.invariant.0,
       record { row_in = c.requires.1; at_in = omega arith },
     )
@@ -27,7 +26,6 @@ pub loop-k-preserved : goal.loop-k-preserved
 loop-k-preserved c =
     let l = c.loop-k in
     let h = c.loop-k-test.true in
-    let w = c.wide-w.ensures in
     let rows = held l.mask l.value in (
       record { masks_length = omega (arith, l.invariant.0.masks_length); values_length = omega (arith, l.invariant.0.values_length) },
       bit-next (lent c.args.width.now c.args.lock.now c.args.mask.now c.args.value.now c.args.words.now) c.args.c c.args.i l.k rows _ (record { row_in = c.requires.1; at_in = omega arith }) l.invariant.1
@@ -37,5 +35,4 @@ loop-k-preserved c =
 pub returns : goal.returns
 returns c =
     let l = c.loop-k in
-    let w = c.wide-w.ensures in
     bit-end (lent c.args.width.now c.args.lock.now c.args.mask.now c.args.value.now c.args.words.now) c.args.c c.args.i l.k (held l.mask l.value) (omega (arith, c.loop-k-test.false)) l.invariant.1

@@ -1,5 +1,4 @@
 -- `reset_search::visit_row` meets its contract: a locked row is left alone, else its bits are visited, rising. Assumes nothing.
-use Prim.Native.Nat.{◌-◌}
 use Rattle.checks.specs.Model.{lent}
 use Rattle.steps.specs.States.{held}
 use Rattle.steps.specs.Encoding.{OwnRows}
@@ -8,6 +7,3 @@ use Rattle.reset_search.proofs.visit_row.Given as goal
 
 abbrev pub invariant-loop-k : goal.invariant-loop-k
 invariant-loop-k l = OwnRows l.width l.tmask l.tvalue × AtBit (lent l.width l.lock l.initial.mask l.initial.value l.words) l.c l.i l.k (held l.mask l.value)
-
-abbrev pub decreases-loop-k : goal.decreases-loop-k
-decreases-loop-k l = l.w - l.k

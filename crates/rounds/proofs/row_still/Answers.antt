@@ -1,6 +1,5 @@
 -- `rounds::row_still` meets its contract: the next row is tested to lie inside the state row. Assumes nothing.
 use Rattle.operations.specs.Record.{width_at}
-use borrow.Author.Rules.{rules}
 use Rattle.rounds.proofs.row_still.Goals as goal
 
 pub returns : goal.returns

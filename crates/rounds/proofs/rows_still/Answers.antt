@@ -1,18 +1,10 @@
 -- `rounds::rows_still` meets its contract. The invariant: no pair before i changes its state row. Assumes nothing.
 use mathlib.Core.Path.{◌≡◌, sym, ◌∙◌}
-use mathlib.Core.Bool.{Bool, true}
-use mathlib.Core.List.{List}
-use Prim.Native.Nat.{ℕ, ◌-◌, ◌≤◌, ◌<◌}
+use mathlib.Core.Bool.{true}
 use native.Mathlib.Omega.{arith}
-use lib.ListN.{length}
 use Rattle.bits.proofs.Below.{below_next}
-use Rattle.checks.specs.Table.{State, row_at}
 use Rattle.steps.specs.States.{held}
-use Rattle.orders.specs.Order.{equal_row}
-use Rattle.rounds.specs.Clock.{pair, widened}
 use Rattle.rounds.proofs.PairTurns.{stays, all_stay, one-changes}
-use Rattle.std.proofs.Common.{get_or}
-use borrow.Author.Rules.{rules}
 use Rattle.rounds.proofs.rows_still.Goals as goal
 
 pub loop-i-init : goal.loop-i-init
@@ -24,25 +16,17 @@ row_still-requires c =
     let R = c.requires in
     let m = R.pairs.states_in i c.loop-i-test.true in
     let n = R.pairs.nexts_in i c.loop-i-test.true in
-    let e = c.index.ensures in
-    let f = c.index-in-loop-i.ensures in
     (omega arith, omega (arith, R.run_values), omega (arith, R.start_masks), omega (arith, R.start_values))
-
--- the test of pair i, as the code finds it
-found : (b : Bool) (widths states nexts : List ℕ) (ran rows : State) (i s n : ℕ) → s ≡ get_or states i 0 → n ≡ get_or nexts i 0
-    → b ≡ equal_row (widened widths ran rows (pair s n)) (row_at widths rows s) → b ≡ stays widths states nexts ran rows i
-found b widths states nexts ran rows i s n e f h =
-    h ∙ (λ ι. equal_row (widened widths ran rows (pair (e ι) (f ι))) (row_at widths rows (e ι)))
 
 pub returns-then-not-row_still : goal.returns-then-not-row_still
 returns-then-not-row_still c widths =
-    sym (one-changes widths c.args.states.now c.args.nexts.now (held c.args.mask.now c.args.value.now) (held c.args.smask.now c.args.svalue.now) c.loop-i.i c.loop-i-test.true (sym (found _ widths c.args.states.now c.args.nexts.now (held c.args.mask.now c.args.value.now) (held c.args.smask.now c.args.svalue.now) c.loop-i.i _ _ c.index.ensures c.index-in-loop-i.ensures (c.row_still.ensures widths)) ∙ c.if-not-row_still.true))
+    sym (one-changes widths c.args.states.now c.args.nexts.now (held c.args.mask.now c.args.value.now) (held c.args.smask.now c.args.svalue.now) c.loop-i.i c.loop-i-test.true (sym (c.row_still.ensures widths) ∙ c.if-not-row_still.true))
 
 pub loop-i-preserved : goal.loop-i-preserved
 loop-i-preserved c = (
   c.loop-i.invariant.0,
   omega arith,
-  (λ widths. below_next (λ j. stays widths c.args.states.now c.args.nexts.now (held c.args.mask.now c.args.value.now) (held c.args.smask.now c.args.svalue.now) j ≡ true) c.loop-i.i (c.loop-i.invariant.2 widths) (sym (found _ widths c.args.states.now c.args.nexts.now (held c.args.mask.now c.args.value.now) (held c.args.smask.now c.args.svalue.now) c.loop-i.i _ _ c.index.ensures c.index-in-loop-i.ensures (c.row_still.ensures widths)) ∙ c.if-not-row_still.false)),
+  (λ widths. below_next (λ j. stays widths c.args.states.now c.args.nexts.now (held c.args.mask.now c.args.value.now) (held c.args.smask.now c.args.svalue.now) j ≡ true) c.loop-i.i (c.loop-i.invariant.2 widths) (sym (c.row_still.ensures widths) ∙ c.if-not-row_still.false)),
 )
 
 pub returns : goal.returns

@@ -4,7 +4,6 @@ use Rattle.vectors.specs.Row.{Row}
 use Rattle.operations.specs.Record.{width_at}
 use Rattle.steps.specs.Step.{put}
 use Rattle.steps.specs.States.{held}
-use borrow.Author.Rules.{rules}
 use Rattle.rounds.proofs.widen_row.Goals as goal
 
 pub returns : goal.returns

@@ -1,12 +1,8 @@
 -- `rounds::widen_rows` meets its contract. The invariant: the pairs from i on, widened from the rows at hand, give what all pairs give. Assumes nothing.
-use mathlib.Core.Path.{◌≡◌, refl, ◌∙◌}
-use mathlib.Core.List.{List}
-use Prim.Native.Nat.{ℕ, ◌-◌, ◌≤◌}
+use mathlib.Core.Path.{refl, ◌∙◌}
 use native.Mathlib.Omega.{arith}
-use lib.ListN.{length}
 use Rattle.steps.specs.States.{held}
-use Rattle.rounds.proofs.PairTurns.{PairsFrom, pairs_start, pairs-step, pairs_end, put-lengths}
-use borrow.Author.Rules.{rules}
+use Rattle.rounds.proofs.PairTurns.{pairs_start, pairs-step, pairs_end, put-lengths}
 use Rattle.rounds.proofs.widen_rows.Goals as goal
 
 pub loop-i-init : goal.loop-i-init
@@ -17,8 +13,6 @@ widen_row-requires c =
     let R = c.requires in
     let m = R.pairs.states_in c.loop-i.i c.loop-i-test.true in
     let n = R.pairs.nexts_in c.loop-i.i c.loop-i-test.true in
-    let e = c.index.ensures in
-    let f = c.index-in-loop-i.ensures in
     (omega arith, omega (arith, R.run_values), omega (arith, c.loop-i.invariant.0, R.start_masks), omega (arith, c.loop-i.invariant.1, R.start_values))
 
 pub loop-i-preserved : goal.loop-i-preserved
@@ -28,7 +22,7 @@ loop-i-preserved c =
       (put-lengths (held c.loop-i.smask c.loop-i.svalue) _ _ _ _ (c.widen_row.ensures c.args.states.now)).1 ∙ v.1,
       v.2,
       omega arith,
-      (λ widths. pairs-step widths _ _ _ _ _ c.requires.pairs c.loop-i.i _ _ _ _ c.loop-i-test.true (v.4 widths) c.index.ensures c.index-in-loop-i.ensures (c.widen_row.ensures widths)),
+      (λ widths. pairs-step widths _ _ _ _ _ c.requires.pairs c.loop-i.i _ _ c.loop-i-test.true (v.4 widths) (c.widen_row.ensures widths)),
     )
 
 pub returns : goal.returns

@@ -5,6 +5,4 @@ use Rattle.sums.proofs.neg.Goals as goal
 pub returns : goal.returns
 returns c =
     let a = c.args in
-    neg-result a.w 32 c.requires.0 a.m a.v _ _ _ _ c.from_extremes.ensures c.requires.1
-    c.wrapping_sub_u32-least.ensures.value
-    c.wrapping_sub_u32-greatest.ensures.value
+    neg-result a.w 32 c.requires.0 a.a.mask a.a.value _ _ _ _ c.from_extremes.ensures c.requires.1 c.wrapping_neg-least.ensures c.wrapping_neg-greatest.ensures

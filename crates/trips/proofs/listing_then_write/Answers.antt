@@ -10,77 +10,77 @@ use Rattle.trips.proofs.listing_then_write.Goals as goal
 pub overflow_mul-n : goal.overflow_mul-n
 overflow_mul-n c =
     let t = lent c.args.width.now c.args.lock.now c.args.mask.now c.args.value.now c.args.words.now in
-    let left = lent c.read-found.new.width c.read-found.new.lock c.read-found.new.mask c.read-found.new.value c.read-found.new.words in
-    omega (arith, (read-room c.args.text.now t c.read-found.result {new = left} c.read-found.ensures _ _ c.in-Read.is).words_hold)
+    let left = lent c.read.new.width c.read.new.lock c.read.new.mask c.read.new.value c.read.new.words in
+    omega (arith, (read-room c.args.text.now t c.read.result {new = left} c.read.ensures _ c.in_ok-c.was).words_hold)
 
-pub slice_bounds-write-end : goal.slice_bounds-write-end
-slice_bounds-write-end c =
+pub slice_bounds-t-end : goal.slice_bounds-t-end
+slice_bounds-t-end c =
     let t = lent c.args.width.now c.args.lock.now c.args.mask.now c.args.value.now c.args.words.now in
-    let left = lent c.read-found.new.width c.read-found.new.lock c.read-found.new.mask c.read-found.new.value c.read-found.new.words in
-    (read-room c.args.text.now t c.read-found.result {new = left} c.read-found.ensures _ _ c.in-Read.is).widths_hold
+    let left = lent c.read.new.width c.read.new.lock c.read.new.mask c.read.new.value c.read.new.words in
+    (read-room c.args.text.now t c.read.result {new = left} c.read.ensures _ c.in_ok-c.was).widths_hold
 
-pub slice_bounds-write-end-in-Read : goal.slice_bounds-write-end-in-Read
-slice_bounds-write-end-in-Read c =
+pub slice_bounds-t-end-2 : goal.slice_bounds-t-end-2
+slice_bounds-t-end-2 c =
     let t = lent c.args.width.now c.args.lock.now c.args.mask.now c.args.value.now c.args.words.now in
-    let left = lent c.read-found.new.width c.read-found.new.lock c.read-found.new.mask c.read-found.new.value c.read-found.new.words in
-    sym (length-take-le _ _ (read-room c.args.text.now t c.read-found.result {new = left} c.read-found.ensures _ _ c.in-Read.is).widths_hold)
+    let left = lent c.read.new.width c.read.new.lock c.read.new.mask c.read.new.value c.read.new.words in
+    sym (length-take-le _ _ (read-room c.args.text.now t c.read.result {new = left} c.read.ensures _ c.in_ok-c.was).widths_hold)
 
-pub slice_bounds-write-end-in-Read-2 : goal.slice_bounds-write-end-in-Read-2
-slice_bounds-write-end-in-Read-2 c =
+pub slice_bounds-t-end-3 : goal.slice_bounds-t-end-3
+slice_bounds-t-end-3 c =
     let t = lent c.args.width.now c.args.lock.now c.args.mask.now c.args.value.now c.args.words.now in
-    let left = lent c.read-found.new.width c.read-found.new.lock c.read-found.new.mask c.read-found.new.value c.read-found.new.words in
-    (read-room c.args.text.now t c.read-found.result {new = left} c.read-found.ensures _ _ c.in-Read.is).locks_hold
+    let left = lent c.read.new.width c.read.new.lock c.read.new.mask c.read.new.value c.read.new.words in
+    (read-room c.args.text.now t c.read.result {new = left} c.read.ensures _ c.in_ok-c.was).locks_hold
 
-pub slice_bounds-write-end-in-Read-3 : goal.slice_bounds-write-end-in-Read-3
-slice_bounds-write-end-in-Read-3 c =
+pub slice_bounds-t-end-4 : goal.slice_bounds-t-end-4
+slice_bounds-t-end-4 c =
     let t = lent c.args.width.now c.args.lock.now c.args.mask.now c.args.value.now c.args.words.now in
-    let left = lent c.read-found.new.width c.read-found.new.lock c.read-found.new.mask c.read-found.new.value c.read-found.new.words in
-    sym (length-take-le _ _ (read-room c.args.text.now t c.read-found.result {new = left} c.read-found.ensures _ _ c.in-Read.is).locks_hold)
+    let left = lent c.read.new.width c.read.new.lock c.read.new.mask c.read.new.value c.read.new.words in
+    sym (length-take-le _ _ (read-room c.args.text.now t c.read.result {new = left} c.read.ensures _ c.in_ok-c.was).locks_hold)
 
-pub slice_bounds-write-end-in-Read-4 : goal.slice_bounds-write-end-in-Read-4
-slice_bounds-write-end-in-Read-4 c =
+pub slice_bounds-t-end-5 : goal.slice_bounds-t-end-5
+slice_bounds-t-end-5 c =
     let t = lent c.args.width.now c.args.lock.now c.args.mask.now c.args.value.now c.args.words.now in
-    let left = lent c.read-found.new.width c.read-found.new.lock c.read-found.new.mask c.read-found.new.value c.read-found.new.words in
-    (read-room c.args.text.now t c.read-found.result {new = left} c.read-found.ensures _ _ c.in-Read.is).masks_hold
+    let left = lent c.read.new.width c.read.new.lock c.read.new.mask c.read.new.value c.read.new.words in
+    (read-room c.args.text.now t c.read.result {new = left} c.read.ensures _ c.in_ok-c.was).masks_hold
 
-pub slice_bounds-write-end-in-Read-5 : goal.slice_bounds-write-end-in-Read-5
-slice_bounds-write-end-in-Read-5 c =
+pub slice_bounds-t-end-6 : goal.slice_bounds-t-end-6
+slice_bounds-t-end-6 c =
     let t = lent c.args.width.now c.args.lock.now c.args.mask.now c.args.value.now c.args.words.now in
-    let left = lent c.read-found.new.width c.read-found.new.lock c.read-found.new.mask c.read-found.new.value c.read-found.new.words in
-    sym (length-take-le _ _ (read-room c.args.text.now t c.read-found.result {new = left} c.read-found.ensures _ _ c.in-Read.is).masks_hold)
+    let left = lent c.read.new.width c.read.new.lock c.read.new.mask c.read.new.value c.read.new.words in
+    sym (length-take-le _ _ (read-room c.args.text.now t c.read.result {new = left} c.read.ensures _ c.in_ok-c.was).masks_hold)
 
-pub slice_bounds-write-end-in-Read-6 : goal.slice_bounds-write-end-in-Read-6
-slice_bounds-write-end-in-Read-6 c =
+pub slice_bounds-t-end-7 : goal.slice_bounds-t-end-7
+slice_bounds-t-end-7 c =
     let t = lent c.args.width.now c.args.lock.now c.args.mask.now c.args.value.now c.args.words.now in
-    let left = lent c.read-found.new.width c.read-found.new.lock c.read-found.new.mask c.read-found.new.value c.read-found.new.words in
-    (read-room c.args.text.now t c.read-found.result {new = left} c.read-found.ensures _ _ c.in-Read.is).values_hold
+    let left = lent c.read.new.width c.read.new.lock c.read.new.mask c.read.new.value c.read.new.words in
+    (read-room c.args.text.now t c.read.result {new = left} c.read.ensures _ c.in_ok-c.was).values_hold
 
-pub slice_bounds-write-end-in-Read-7 : goal.slice_bounds-write-end-in-Read-7
-slice_bounds-write-end-in-Read-7 c =
+pub slice_bounds-t-end-8 : goal.slice_bounds-t-end-8
+slice_bounds-t-end-8 c =
     let t = lent c.args.width.now c.args.lock.now c.args.mask.now c.args.value.now c.args.words.now in
-    let left = lent c.read-found.new.width c.read-found.new.lock c.read-found.new.mask c.read-found.new.value c.read-found.new.words in
-    sym (length-take-le _ _ (read-room c.args.text.now t c.read-found.result {new = left} c.read-found.ensures _ _ c.in-Read.is).values_hold)
+    let left = lent c.read.new.width c.read.new.lock c.read.new.mask c.read.new.value c.read.new.words in
+    sym (length-take-le _ _ (read-room c.args.text.now t c.read.result {new = left} c.read.ensures _ c.in_ok-c.was).values_hold)
 
-pub slice_bounds-write-end-in-Read-8 : goal.slice_bounds-write-end-in-Read-8
-slice_bounds-write-end-in-Read-8 c =
+pub slice_bounds-t-end-9 : goal.slice_bounds-t-end-9
+slice_bounds-t-end-9 c =
     let t = lent c.args.width.now c.args.lock.now c.args.mask.now c.args.value.now c.args.words.now in
-    let left = lent c.read-found.new.width c.read-found.new.lock c.read-found.new.mask c.read-found.new.value c.read-found.new.words in
-    (read-room c.args.text.now t c.read-found.result {new = left} c.read-found.ensures _ _ c.in-Read.is).words_hold
+    let left = lent c.read.new.width c.read.new.lock c.read.new.mask c.read.new.value c.read.new.words in
+    (read-room c.args.text.now t c.read.result {new = left} c.read.ensures _ c.in_ok-c.was).words_hold
 
-pub slice_bounds-write-end-in-Read-9 : goal.slice_bounds-write-end-in-Read-9
-slice_bounds-write-end-in-Read-9 c =
+pub slice_bounds-t-end-10 : goal.slice_bounds-t-end-10
+slice_bounds-t-end-10 c =
     let t = lent c.args.width.now c.args.lock.now c.args.mask.now c.args.value.now c.args.words.now in
-    let left = lent c.read-found.new.width c.read-found.new.lock c.read-found.new.mask c.read-found.new.value c.read-found.new.words in
-    sym (length-take-le _ _ (read-room c.args.text.now t c.read-found.result {new = left} c.read-found.ensures _ _ c.in-Read.is).words_hold)
+    let left = lent c.read.new.width c.read.new.lock c.read.new.mask c.read.new.value c.read.new.words in
+    sym (length-take-le _ _ (read-room c.args.text.now t c.read.result {new = left} c.read.ensures _ c.in_ok-c.was).words_hold)
 
-pub returns-in-Refused : goal.returns-in-Refused
-returns-in-Refused c =
+pub returns-in_err-c : goal.returns-in_err-c
+returns-in_err-c c =
     let t = lent c.args.width.now c.args.lock.now c.args.mask.now c.args.value.now c.args.words.now in
-    let left = lent c.read-found.new.width c.read-found.new.lock c.read-found.new.mask c.read-found.new.value c.read-found.new.words in
-    not-read c.args.text.now t c.read-found.result {new = left} c.read-found.ensures _ c.in-Refused.is _ _
+    let left = lent c.read.new.width c.read.new.lock c.read.new.mask c.read.new.value c.read.new.words in
+    not-read c.args.text.now t c.read.result {new = left} c.read.ensures _ c.in_err-c.was _ _
 
-pub returns-in-Read : goal.returns-in-Read
-returns-in-Read c =
+pub returns : goal.returns
+returns c =
     let t = lent c.args.width.now c.args.lock.now c.args.mask.now c.args.value.now c.args.words.now in
-    let left = lent c.read-found.new.width c.read-found.new.lock c.read-found.new.mask c.read-found.new.value c.read-found.new.words in
-    form-trip c.args.text.now t c.read-found.result {new = left} c.read-found.ensures _ _ c.in-Read.is c.args.out.now _ c.write.ensures
+    let left = lent c.read.new.width c.read.new.lock c.read.new.mask c.read.new.value c.read.new.words in
+    form-trip c.args.text.now t c.read.result {new = left} c.read.ensures _ c.in_ok-c.was c.args.out.now _ c.write.ensures

@@ -40,28 +40,28 @@ extended-y1-requires c = (wide _ _ _ _ c.requires.2, c.requires.0)
 pub mul-requires : goal.mul-requires
 mul-requires c =
     let a = c.args in
-    let u = c.unpack-first in
-    let d = c.requires.3 (lacking _ _ a.s u.ensures.0 c.if-ma-s-eq0.true) in
+    let u = c.from-first in
+    let d = c.requires.3 (lacking _ _ a.s u.ensures.0 c.if-first-s-eq0.true) in
     ready a.wt c.requires.0 (wide _ _ _ _ c.requires.2) (left_formed _ _ _ _ (same_operand u.ensures.0 u.ensures.1 c.requires.1)) (low-formed _ _ _ _ c.requires.2 d)
 
-pub mul-requires-then-ma-s-eq0 : goal.mul-requires-then-ma-s-eq0
-mul-requires-then-ma-s-eq0 c =
+pub mul-requires-then-first-s-eq0 : goal.mul-requires-then-first-s-eq0
+mul-requires-then-first-s-eq0 c =
     let a = c.args in
-    let u = c.unpack-first in
+    let u = c.from-first in
     let B = c.requires.2 in
-    let d = c.requires.3 (lacking _ _ a.s u.ensures.0 c.if-ma-s-eq0.true) in
+    let d = c.requires.3 (lacking _ _ a.s u.ensures.0 c.if-first-s-eq0.true) in
     ready a.wt c.requires.0 (wide _ _ _ _ B) (left_formed _ _ _ _ (same_operand u.ensures.0 u.ensures.1 c.requires.1))
     (high-formed _ _ _ _ B d _ (raised _ _ _ _ _ B d c.extended-y1.ensures))
 
-pub returns-then-ma-s-eq0 : goal.returns-then-ma-s-eq0
-returns-then-ma-s-eq0 c A B =
+pub returns-then-first-s-eq0 : goal.returns-then-first-s-eq0
+returns-then-first-s-eq0 c A B =
     let a = c.args in
     let wt = a.wt in
-    let u = c.unpack-first in
-    let d = c.requires.3 (lacking _ _ a.s u.ensures.0 c.if-ma-s-eq0.true) in
-    left_is _ _ _ _ (same_operand u.ensures.0 u.ensures.1 A) c.if-ma-s-eq0.true (product B)
-    (apart-is _ _ _ _ B d _ (raised _ _ _ _ _ B d c.extended-y1.ensures) (multiplied wt (row wt u.result.mask u.result.value)) c.mul.ensures c.mul-then-ma-s-eq0.ensures
-    (ap₂ (row wt) c.pack.ensures.0 c.pack.ensures.1 ∙ c.joined.ensures wt))
+    let u = c.from-first in
+    let d = c.requires.3 (lacking _ _ a.s u.ensures.0 c.if-first-s-eq0.true) in
+    left_is _ _ _ _ (same_operand u.ensures.0 u.ensures.1 A) c.if-first-s-eq0.true (product B)
+    (apart-is _ _ _ _ B d _ (raised _ _ _ _ _ B d c.extended-y1.ensures) (multiplied wt (row wt u.result.mask u.result.value)) c.mul.ensures c.mul-then-first-s-eq0.ensures
+    (ap₂ (row wt) c.from.ensures.0 c.from.ensures.1 ∙ c.joined.ensures wt))
     ∙ same-result u.ensures.0 u.ensures.1 A (product B)
 
 -- ---- the first sign is unknown
@@ -71,29 +71,29 @@ extended-x1-requires c = (wide _ _ _ _ c.requires.2, c.requires.0)
 
 pub mul-requires-then-mb-t-eq0 : goal.mul-requires-then-mb-t-eq0
 mul-requires-then-mb-t-eq0 c =
-    let u = c.unpack-first in
+    let u = c.from-first in
     let B = c.requires.2 in
     let A = same_operand u.ensures.0 u.ensures.1 c.requires.1 in
-    ready c.args.wt c.requires.0 (wide _ _ _ _ B) (low-formed _ _ _ _ A c.if-ma-s-eq0.false) (left_formed _ _ _ _ B)
+    ready c.args.wt c.requires.0 (wide _ _ _ _ B) (low-formed _ _ _ _ A c.if-first-s-eq0.false) (left_formed _ _ _ _ B)
 
 pub mul-requires-then-mb-t-eq0-2 : goal.mul-requires-then-mb-t-eq0-2
 mul-requires-then-mb-t-eq0-2 c =
-    let u = c.unpack-first in
+    let u = c.from-first in
     let B = c.requires.2 in
     let A = same_operand u.ensures.0 u.ensures.1 c.requires.1 in
-    let d = c.if-ma-s-eq0.false in
+    let d = c.if-first-s-eq0.false in
     ready c.args.wt c.requires.0 (wide _ _ _ _ B) (high-formed _ _ _ _ A d _ (raised _ _ _ _ _ A d c.extended-x1.ensures)) (left_formed _ _ _ _ B)
 
 pub returns-then-mb-t-eq0 : goal.returns-then-mb-t-eq0
 returns-then-mb-t-eq0 c A' B =
     let wt = c.args.wt in
-    let u = c.unpack-first in
+    let u = c.from-first in
     let A = same_operand u.ensures.0 u.ensures.1 A' in
-    let d = c.if-ma-s-eq0.false in
+    let d = c.if-first-s-eq0.false in
     let l = c.if-mb-t-eq0.true in
     apart-is _ _ _ _ A d _ (raised _ _ _ _ _ A d c.extended-x1.ensures) (product B)
     (left_is _ _ _ _ B l (multiplied wt _) c.mul-then-mb-t-eq0.ensures) (left_is _ _ _ _ B l (multiplied wt _) c.mul-then-mb-t-eq0-2.ensures)
-    (ap₂ (row wt) c.pack-then-mb-t-eq0.ensures.0 c.pack-then-mb-t-eq0.ensures.1 ∙ c.joined-then-mb-t-eq0.ensures wt)
+    (ap₂ (row wt) c.from-then-mb-t-eq0.ensures.0 c.from-then-mb-t-eq0.ensures.1 ∙ c.joined-then-mb-t-eq0.ensures wt)
     ∙ same-result u.ensures.0 u.ensures.1 A' (product B)
 
 -- ---- both are
@@ -103,33 +103,33 @@ extended-y1-requires-2 c = (wide _ _ _ _ c.requires.2, c.requires.0)
 
 pub mul-requires-2 : goal.mul-requires-2
 mul-requires-2 c =
-    let u = c.unpack-first in
+    let u = c.from-first in
     let B = c.requires.2 in
     let A = same_operand u.ensures.0 u.ensures.1 c.requires.1 in
-    ready c.args.wt c.requires.0 (wide _ _ _ _ B) (low-formed _ _ _ _ A c.if-ma-s-eq0.false) (low-formed _ _ _ _ B c.if-mb-t-eq0.false)
+    ready c.args.wt c.requires.0 (wide _ _ _ _ B) (low-formed _ _ _ _ A c.if-first-s-eq0.false) (low-formed _ _ _ _ B c.if-mb-t-eq0.false)
 
 pub mul-requires-3 : goal.mul-requires-3
 mul-requires-3 c =
-    let u = c.unpack-first in
+    let u = c.from-first in
     let B = c.requires.2 in
     let A = same_operand u.ensures.0 u.ensures.1 c.requires.1 in
     let h = c.if-mb-t-eq0.false in
-    ready c.args.wt c.requires.0 (wide _ _ _ _ B) (low-formed _ _ _ _ A c.if-ma-s-eq0.false) (high-formed _ _ _ _ B h _ (raised _ _ _ _ _ B h c.extended-y1-2.ensures))
+    ready c.args.wt c.requires.0 (wide _ _ _ _ B) (low-formed _ _ _ _ A c.if-first-s-eq0.false) (high-formed _ _ _ _ B h _ (raised _ _ _ _ _ B h c.extended-y1-2.ensures))
 
 pub mul-requires-4 : goal.mul-requires-4
 mul-requires-4 c =
-    let u = c.unpack-first in
+    let u = c.from-first in
     let B = c.requires.2 in
     let A = same_operand u.ensures.0 u.ensures.1 c.requires.1 in
-    let d = c.if-ma-s-eq0.false in
+    let d = c.if-first-s-eq0.false in
     ready c.args.wt c.requires.0 (wide _ _ _ _ B) (high-formed _ _ _ _ A d _ (raised _ _ _ _ _ A d c.extended-x1.ensures)) (low-formed _ _ _ _ B c.if-mb-t-eq0.false)
 
 pub mul-requires-5 : goal.mul-requires-5
 mul-requires-5 c =
-    let u = c.unpack-first in
+    let u = c.from-first in
     let B = c.requires.2 in
     let A = same_operand u.ensures.0 u.ensures.1 c.requires.1 in
-    let d = c.if-ma-s-eq0.false in
+    let d = c.if-first-s-eq0.false in
     let h = c.if-mb-t-eq0.false in
     ready c.args.wt c.requires.0 (wide _ _ _ _ B) (high-formed _ _ _ _ A d _ (raised _ _ _ _ _ A d c.extended-x1.ensures))
     (high-formed _ _ _ _ B h _ (raised _ _ _ _ _ B h c.extended-y1-2.ensures))
@@ -137,13 +137,13 @@ mul-requires-5 c =
 pub returns : goal.returns
 returns c A' B =
     let wt = c.args.wt in
-    let u = c.unpack-first in
+    let u = c.from-first in
     let A = same_operand u.ensures.0 u.ensures.1 A' in
-    let d = c.if-ma-s-eq0.false in
+    let d = c.if-first-s-eq0.false in
     let h = c.if-mb-t-eq0.false in
     let y = raised _ _ _ _ _ B h c.extended-y1-2.ensures in
     apart-is _ _ _ _ A d _ (raised _ _ _ _ _ A d c.extended-x1.ensures) (product B)
     (apart-is _ _ _ _ B h _ y (multiplied wt _) c.mul-2.ensures c.mul-3.ensures (c.joined-p.ensures wt))
     (apart-is _ _ _ _ B h _ y (multiplied wt _) c.mul-4.ensures c.mul-5.ensures (c.joined-q.ensures wt))
-    (ap₂ (row wt) c.pack-2.ensures.0 c.pack-2.ensures.1 ∙ c.joined-2.ensures wt)
+    (ap₂ (row wt) c.from-2.ensures.0 c.from-2.ensures.1 ∙ c.joined-2.ensures wt)
     ∙ same-result u.ensures.0 u.ensures.1 A' (product B)

@@ -60,30 +60,30 @@ extended-y-requires c = (long c.requires.1, c.requires.0)
 pub mul-requires : goal.mul-requires
 mul-requires c =
     let a = c.args in
-    ready c.requires.0 (operand a.sa a.wa a.va c.requires.1 c.sign_place-s.ensures c.extended-x.ensures)
-    (operand a.sb a.wb a.vb c.requires.2 c.sign_place-t.ensures c.extended-y.ensures)
+    ready c.requires.0 (operand a.sa a.wa a.a.value c.requires.1 c.sign_place-s.ensures c.extended-x.ensures)
+    (operand a.sb a.wb a.b.value c.requires.2 c.sign_place-t.ensures c.extended-y.ensures)
 
-pub returns-then-ma-mb-eq0 : goal.returns-then-ma-mb-eq0
-returns-then-ma-mb-eq0 c =
+pub returns-then-a-b-eq0 : goal.returns-then-a-b-eq0
+returns-then-a-b-eq0 c =
     let a = c.args in
-    let (z, z') = or-zero a.ma a.mb c.if-ma-mb-eq0.true in
+    let (z, z') = or-zero a.a.mask a.b.mask c.if-a-b-eq0.true in
     c.mul.ensures
-    ∙ is-best (operand a.sa a.wa a.va c.requires.1 c.sign_place-s.ensures c.extended-x.ensures)
-    (operand a.sb a.wb a.vb c.requires.2 c.sign_place-t.ensures c.extended-y.ensures)
-    (sign-none a.sa (row a.wa a.ma a.va) z) (sign-none a.sb (row a.wb a.mb a.vb) z')
+    ∙ is-best (operand a.sa a.wa a.a.value c.requires.1 c.sign_place-s.ensures c.extended-x.ensures)
+    (operand a.sb a.wb a.b.value c.requires.2 c.sign_place-t.ensures c.extended-y.ensures)
+    (sign-none a.sa (row a.wa a.a.mask a.a.value) z) (sign-none a.sb (row a.wb a.b.mask a.b.value) z')
 
 pub mul_unknown-requires : goal.mul_unknown-requires
 mul_unknown-requires c =
     let a = c.args in
-    ready c.requires.0 (operand a.sa a.wa a.va c.requires.1 c.sign_place-s.ensures c.extended-x.ensures)
-    (operand a.sb a.wb a.vb c.requires.2 c.sign_place-t.ensures c.extended-y.ensures)
+    ready c.requires.0 (operand a.sa a.wa a.a.value c.requires.1 c.sign_place-s.ensures c.extended-x.ensures)
+    (operand a.sb a.wb a.b.value c.requires.2 c.sign_place-t.ensures c.extended-y.ensures)
 
 pub returns : goal.returns
 returns c =
     let a = c.args in
-    let A = operand a.sa a.wa a.va c.requires.1 c.sign_place-s.ensures c.extended-x.ensures in
-    let B = operand a.sb a.wb a.vb c.requires.2 c.sign_place-t.ensures c.extended-y.ensures in
-    c.mul_unknown.ensures ∙ is-best A B (sign-left _ _ _ _ A c.if-ma-s-ne0.false) (sign-left _ _ _ _ B c.if-mb-t-ne0.false)
+    let A = operand a.sa a.wa a.a.value c.requires.1 c.sign_place-s.ensures c.extended-x.ensures in
+    let B = operand a.sb a.wb a.b.value c.requires.2 c.sign_place-t.ensures c.extended-y.ensures in
+    c.mul_unknown.ensures ∙ is-best A B (sign-left _ _ _ _ A c.if-a-s-ne0.false) (sign-left _ _ _ _ B c.if-b-t-ne0.false)
 
 -- ---- a sign is unknown
 
@@ -100,39 +100,39 @@ apart-is-best {wt} {s} {m} {x} {k} {z} {t} {n} {y} e f A B =
 pub by_signs-requires : goal.by_signs-requires
 by_signs-requires c =
     let a = c.args in
-    let u = c.pack-a in (
+    let u = c.from-packed in (
       c.requires.0,
-      same_operand u.ensures.0 u.ensures.1 (operand a.sa a.wa a.va c.requires.1 c.sign_place-s.ensures c.extended-x.ensures),
-      operand a.sb a.wb a.vb c.requires.2 c.sign_place-t.ensures c.extended-y.ensures,
-      (λ z z'. c.if-ma-s-ne0.true (packed-mask _ _ _ u.ensures.0 z)),
+      same_operand u.ensures.0 u.ensures.1 (operand a.sa a.wa a.a.value c.requires.1 c.sign_place-s.ensures c.extended-x.ensures),
+      operand a.sb a.wb a.b.value c.requires.2 c.sign_place-t.ensures c.extended-y.ensures,
+      (λ z z'. c.if-a-s-ne0.true (packed-mask _ _ _ u.ensures.0 z)),
     )
 
-pub by_signs-requires-then-mb-t-ne0 : goal.by_signs-requires-then-mb-t-ne0
-by_signs-requires-then-mb-t-ne0 c =
+pub by_signs-requires-then-b-t-ne0 : goal.by_signs-requires-then-b-t-ne0
+by_signs-requires-then-b-t-ne0 c =
     let a = c.args in
-    let u = c.pack-a in (
+    let u = c.from-packed in (
       c.requires.0,
-      same_operand u.ensures.0 u.ensures.1 (operand a.sa a.wa a.va c.requires.1 c.sign_place-s.ensures c.extended-x.ensures),
-      operand a.sb a.wb a.vb c.requires.2 c.sign_place-t.ensures c.extended-y.ensures,
-      (λ z z'. c.if-mb-t-ne0.true z'),
+      same_operand u.ensures.0 u.ensures.1 (operand a.sa a.wa a.a.value c.requires.1 c.sign_place-s.ensures c.extended-x.ensures),
+      operand a.sb a.wb a.b.value c.requires.2 c.sign_place-t.ensures c.extended-y.ensures,
+      (λ z z'. c.if-b-t-ne0.true z'),
     )
 
-pub returns-then-ma-s-ne0 : goal.returns-then-ma-s-ne0
-returns-then-ma-s-ne0 c =
+pub returns-then-a-s-ne0 : goal.returns-then-a-s-ne0
+returns-then-a-s-ne0 c =
     let a = c.args in
-    let u = c.pack-a in
-    let A = operand a.sa a.wa a.va c.requires.1 c.sign_place-s.ensures c.extended-x.ensures in
-    let B = operand a.sb a.wb a.vb c.requires.2 c.sign_place-t.ensures c.extended-y.ensures in
-    ap₂ (row a.wt) c.unpack.ensures.0 c.unpack.ensures.1
+    let u = c.from-packed in
+    let A = operand a.sa a.wa a.a.value c.requires.1 c.sign_place-s.ensures c.extended-x.ensures in
+    let B = operand a.sb a.wb a.b.value c.requires.2 c.sign_place-t.ensures c.extended-y.ensures in
+    ap₂ (row a.wt) c.from.ensures.0 c.from.ensures.1
     ∙ c.by_signs.ensures (same_operand u.ensures.0 u.ensures.1 A) B
     ∙ apart-is-best u.ensures.0 u.ensures.1 A B
 
-pub returns-then-mb-t-ne0 : goal.returns-then-mb-t-ne0
-returns-then-mb-t-ne0 c =
+pub returns-then-b-t-ne0 : goal.returns-then-b-t-ne0
+returns-then-b-t-ne0 c =
     let a = c.args in
-    let u = c.pack-a in
-    let A = operand a.sa a.wa a.va c.requires.1 c.sign_place-s.ensures c.extended-x.ensures in
-    let B = operand a.sb a.wb a.vb c.requires.2 c.sign_place-t.ensures c.extended-y.ensures in
-    ap₂ (row a.wt) c.unpack-then-mb-t-ne0.ensures.0 c.unpack-then-mb-t-ne0.ensures.1
-    ∙ c.by_signs-then-mb-t-ne0.ensures (same_operand u.ensures.0 u.ensures.1 A) B
+    let u = c.from-packed in
+    let A = operand a.sa a.wa a.a.value c.requires.1 c.sign_place-s.ensures c.extended-x.ensures in
+    let B = operand a.sb a.wb a.b.value c.requires.2 c.sign_place-t.ensures c.extended-y.ensures in
+    ap₂ (row a.wt) c.from-then-b-t-ne0.ensures.0 c.from-then-b-t-ne0.ensures.1
+    ∙ c.by_signs-then-b-t-ne0.ensures (same_operand u.ensures.0 u.ensures.1 A) B
     ∙ apart-is-best u.ensures.0 u.ensures.1 A B

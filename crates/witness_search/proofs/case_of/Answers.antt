@@ -11,25 +11,25 @@ use Rattle.witness_search.proofs.case_of.Goals as goal
 some_left : (m : ℕ) → m ≢ 0 → 1 ≤ m
 some_left m h = omega arith
 
-in-first : (o : Operands) (b m v : ℕ) → o.ma ≢ 0 → m ≡ lowest_cleared o.ma → v ≡ lowest_as o.ma o.va b
-    → ◌≡◌ {A = Operands} (record { ma = m; va = v; mb = o.mb; vb = o.vb }) (case_of o b)
+in-first : (o : Operands) (b m v : ℕ) → o.a.mask ≢ 0 → m ≡ lowest_cleared o.a.mask → v ≡ lowest_as o.a.mask o.a.value b
+    → ◌≡◌ {A = Operands} (record { a = record { mask = m; value = v }; b = o.b }) (case_of o b)
 unfolding case_of
-in-first o b m v n e f = rw (ne_eqb o.ma 0 n) (λ ι. record { ma = e ι; va = f ι; mb = o.mb; vb = o.vb })
+in-first o b m v n e f = rw (ne_eqb o.a.mask 0 n) (λ ι. record { a = record { mask = e ι; value = f ι }; b = o.b })
 
-in-second : (o : Operands) (b m v : ℕ) → o.ma ≡ 0 → m ≡ lowest_cleared o.mb → v ≡ lowest_as o.mb o.vb b
-    → ◌≡◌ {A = Operands} (record { ma = o.ma; va = o.va; mb = m; vb = v }) (case_of o b)
+in-second : (o : Operands) (b m v : ℕ) → o.a.mask ≡ 0 → m ≡ lowest_cleared o.b.mask → v ≡ lowest_as o.b.mask o.b.value b
+    → ◌≡◌ {A = Operands} (record { a = o.a; b = record { mask = m; value = v } }) (case_of o b)
 unfolding case_of
-in-second o b m v n e f = rw (eq-eqb o.ma 0 n) (λ ι. record { ma = o.ma; va = o.va; mb = e ι; vb = f ι })
+in-second o b m v n e f = rw (eq-eqb o.a.mask 0 n) (λ ι. record { a = o.a; b = record { mask = e ι; value = f ι } })
 
 pub lowest_as-second-requires : goal.lowest_as-second-requires
-lowest_as-second-requires c = (some_left c.args.o.mb (c.requires.1 c.if-o-eq0.true), c.requires.0)
+lowest_as-second-requires c = (some_left c.args.o.b.mask (c.requires.1 c.if-o-eq0.true), c.requires.0)
 
 pub returns-then-o-eq0 : goal.returns-then-o-eq0
 returns-then-o-eq0 c =
     in-second c.args.o c.args.b c.lowest_as-second.result.mask c.lowest_as-second.result.value c.if-o-eq0.true c.lowest_as-second.ensures.0 c.lowest_as-second.ensures.1
 
 pub lowest_as-first-requires : goal.lowest_as-first-requires
-lowest_as-first-requires c = (some_left c.args.o.ma c.if-o-eq0.false, c.requires.0)
+lowest_as-first-requires c = (some_left c.args.o.a.mask c.if-o-eq0.false, c.requires.0)
 
 pub returns : goal.returns
 returns c =

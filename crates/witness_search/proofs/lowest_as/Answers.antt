@@ -12,9 +12,9 @@ place : (m : ℕ) → 1 ≤ m → m < 2 ^ 32 → count_trailing_zeros 32 m < 32
 place m h l = (lowest 32 m (λ e. omega arith) l).0
 
 pub overflow_shl-result : goal.overflow_shl-result
-overflow_shl-result c = place c.args.m c.requires.0 c.ranges.m.fits
+overflow_shl-result c = place c.args.x.mask c.requires.0 (omega arith)
 
 pub returns : goal.returns
 returns c =
     let a = c.args in
-    (refl, ap (bit_or a.v) (shifted-bit 32 a.b (count_trailing_zeros 32 a.m) c.requires.1 (place a.m c.requires.0 c.ranges.m.fits)))
+    (refl, ap (bit_or a.x.value) (shifted-bit 32 a.b (count_trailing_zeros 32 a.x.mask) c.requires.1 (place a.x.mask c.requires.0 (omega arith))))

@@ -12,38 +12,38 @@ use Rattle.witness_search.proofs.operation_bit.Goals as goal
 pub product_bit_unchecked-requires : goal.product_bit_unchecked-requires
 product_bit_unchecked-requires c = record { width = c.args.w; formed = c.requires.formed; below = c.requires.below }
 
-pub returns-then-kind-eq-MUL : goal.returns-then-kind-eq-MUL
-returns-then-kind-eq-MUL c =
+pub returns-in-Mul : goal.returns-in-Mul
+returns-in-Mul c =
     let a = c.args in
     c.product_bit_unchecked.ensures a.w c.requires.below c.requires.formed.first c.requires.formed.second
-    ∙ ap (λ (r : Row). output_bit r a.k) (is_mul a.kind a.w (rows_of a.w a.o) c.if-kind-eq-MUL.true)
+    ∙ ap (λ (r : Row). output_bit r a.k) (is_mul a.kind a.w (rows_of a.w a.o) c.in-Mul.is)
 
-pub add-sum-requires : goal.add-sum-requires
+pub add-requires : goal.add-requires
 unfolding op_add
-add-sum-requires c =
+add-requires c =
     let o = c.args.o in
-    (c.requires.formed.most, two_ready op_add refl refl refl c.args.w o.ma o.va o.mb o.vb (omega (arith, c.requires.below)) c.requires.formed.first c.requires.formed.second)
+    (c.requires.formed.most, two_ready op_add refl refl refl c.args.w o.a.mask o.a.value o.b.mask o.b.value (omega (arith, c.requires.below)) c.requires.formed.first c.requires.formed.second)
 
 pub bit_of-requires : goal.bit_of-requires
 bit_of-requires c = omega (arith, c.requires.below, c.requires.formed.most)
 
-pub returns-then-kind-eq-ADD : goal.returns-then-kind-eq-ADD
-returns-then-kind-eq-ADD c =
+pub returns-in-Add : goal.returns-in-Add
+returns-in-Add c =
     let a = c.args in
-    c.bit_of.ensures a.w ∙ ap (λ (r : Row). output_bit r a.k) (c.add-sum.ensures ∙ is-add a.kind a.w (rows_of a.w a.o) c.if-kind-eq-ADD.true)
+    c.bit_of.ensures a.w ∙ ap (λ (r : Row). output_bit r a.k) (c.add.ensures ∙ is-add a.kind a.w (rows_of a.w a.o) c.in-Add.is)
 
-pub sub-difference-requires : goal.sub-difference-requires
+pub sub-requires : goal.sub-requires
 unfolding op_sub
-sub-difference-requires c =
+sub-requires c =
     let o = c.args.o in
-    (c.requires.formed.most, two_ready op_sub refl refl refl c.args.w o.ma o.va o.mb o.vb (omega (arith, c.requires.below)) c.requires.formed.first c.requires.formed.second)
+    (c.requires.formed.most, two_ready op_sub refl refl refl c.args.w o.a.mask o.a.value o.b.mask o.b.value (omega (arith, c.requires.below)) c.requires.formed.first c.requires.formed.second)
 
-pub bit_of-requires-2 : goal.bit_of-requires-2
-bit_of-requires-2 c = omega (arith, c.requires.below, c.requires.formed.most)
+pub bit_of-requires-in-Sub : goal.bit_of-requires-in-Sub
+bit_of-requires-in-Sub c = omega (arith, c.requires.below, c.requires.formed.most)
 
-pub returns : goal.returns
-returns c =
+pub returns-in-Sub : goal.returns-in-Sub
+returns-in-Sub c =
     let a = c.args in
-    c.bit_of-2.ensures a.w
+    c.bit_of-in-Sub.ensures a.w
     ∙ ap (λ (r : Row). output_bit r a.k)
-    (c.sub-difference.ensures ∙ is-sub a.kind a.w (rows_of a.w a.o) c.requires.kind_is c.if-kind-eq-MUL.false c.if-kind-eq-ADD.false)
+    (c.sub.ensures ∙ is-sub a.kind a.w (rows_of a.w a.o) c.in-Sub.is)

@@ -4,6 +4,7 @@ use mathlib.Core.Path.{ap₂}
 use mathlib.Core.List.{[], ◌∷◌}
 use lib.Bits.{bit_or}
 use Rattle.bits.proofs.Words.{or-zero}
+use Rattle.witness_search.specs.Witness.{number_of}
 use Rattle.witness_search.proofs.Search.{last-choice}
 use Rattle.witness_search.proofs.witness.Goals as goal
 
@@ -23,6 +24,6 @@ pub returns : goal.returns
 returns c =
     let l = c.loop-at in
     let a = c.args in
-    let z = or-zero l.at.ma l.at.mb c.loop-at-test.false in
-    let m = last-choice a.kind a.w a.k a.d l.at l.invariant.0 z.0 z.1 in
-    record { covered = l.invariant.1 (l.at.va ∷ l.at.vb ∷ []) m.covered; makes = m.makes }
+    let z = or-zero l.at.a.mask l.at.b.mask c.loop-at-test.false in
+    let m = last-choice (number_of a.kind) a.w a.k a.d l.at l.invariant.0 z.0 z.1 in
+    record { covered = l.invariant.1 (l.at.a.value ∷ l.at.b.value ∷ []) m.covered; makes = m.makes }

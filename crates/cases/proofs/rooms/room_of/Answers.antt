@@ -6,5 +6,5 @@ use Rattle.cases.proofs.rooms.room_of.Goals as goal
 pub room_in-requires : goal.room_in-requires
 room_in-requires c =
     let left = lent c.read.new.width c.read.new.lock c.read.new.mask c.read.new.value c.read.new.words in
-    let room = read-room _ _ c.read.result {new = left} c.read.ensures _ _ c.in-Read.is in
+    let room = read-room _ _ c.read.result {new = left} c.read.ensures _ c.in-Ok.is in
     (room.widths_hold, room.locks_hold, room.masks_hold, room.values_hold, room.words_hold)

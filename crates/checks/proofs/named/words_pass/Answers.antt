@@ -10,7 +10,8 @@ no-pass e = absurd (subst T (sym e) tt)
 
 pub returns : goal.returns
 returns c e =
-    passes c.args.n c.args.r c.requires.0 c.requires.1 c.word_class-class.result c.word_class-class.ensures
+    passes c.args.n c.args.r c.requires.0 c.requires.1 c.word_class-class.result c.uses_second.result c.uses_parameter.result c.uses_sixth.result
+    c.word_class-class.ensures c.uses_second.ensures c.uses_parameter.ensures c.uses_sixth.ensures
     (sym c.row_outside.ensures ∙ c.if-row_outside.false)
     (sym c.row_outside-2.ensures ∙ c.if-row_outside-2.false)
     (sym c.word_within.ensures ∙ c.if-not-word_within.false)

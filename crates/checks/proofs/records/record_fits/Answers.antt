@@ -1,5 +1,5 @@
 -- `checks::records::record_fits` meets its contract: the widths of the rows that the words name. Assumes nothing.
-use mathlib.Core.Path.{sym, ap, subst, ◌∙◌}
+use mathlib.Core.Path.{sym, subst, ◌∙◌}
 use mathlib.Core.Bool.{Bool, not}
 use mathlib.Core.List.{[], ◌∷◌}
 use native.Mathlib.Omega.{arith}
@@ -7,19 +7,19 @@ use lib.ListN.{length}
 use lib.Dec.{T}
 use Rattle.operations.specs.Kind.{asks}
 use Rattle.operations.specs.Record.{width_at}
-use Rattle.operations.specs.Encoding.{rule_numbered}
+use Rattle.operations.specs.Encoding.{rule_model}
 use Rattle.operations.proofs.Sound.{target-is-row}
 use Rattle.checks.proofs.Naming.{named-facts}
-use Rattle.checks.proofs.Rules.{code-small, reads_of, fits-of}
+use Rattle.checks.proofs.Rules.{no-cells, reads_of, fits-of}
 use Rattle.checks.proofs.records.record_fits.Goals as goal
 
 pub width_at-wt-requires : goal.width_at-wt-requires
 width_at-wt-requires c =
     let h = (named-facts (length c.args.width.now) c.args.r c.requires).target_in (target-is-row c.args.r.kind (named-facts (length c.args.width.now) c.args.r c.requires).known (subst (λ (b : Bool). T (not b)) (sym (sym c.has_cells.ensures ∙ c.if-has_cells.false)) tt)) in
-    omega (arith, c.index.ensures)
+    omega arith
 
 pub width_at-wa-requires : goal.width_at-wa-requires
-width_at-wa-requires c = let h = (named-facts (length c.args.width.now) c.args.r c.requires).first_in in omega (arith, c.index-2.ensures)
+width_at-wa-requires c = let h = (named-facts (length c.args.width.now) c.args.r c.requires).first_in in omega arith
 
 pub rule-requires : goal.rule-requires
 rule-requires c = (named-facts (length c.args.width.now) c.args.r c.requires).known
@@ -28,17 +28,13 @@ pub rule_fits-requires : goal.rule_fits-requires
 rule_fits-requires c =
     let none = (subst (λ (b : Bool). T (not b)) (sym (sym c.has_cells.ensures ∙ c.if-has_cells.false)) tt) in
     let f = (named-facts (length c.args.width.now) c.args.r c.requires) in
-    let h = code-small c.args.r.kind f.known none in
     let e = c.rule.ensures in
-    let eb = c.index-3.ensures in
-    let ep = c.index-4.ensures in
-    let ec = c.index-5.ensures in
     let small = f.parameter_small none in (
-      omega arith,
+      no-cells c.args.r.kind f.known none c.rule.result e,
       c.width_at-wt.ensures.0,
       c.width_at-wa.ensures.0,
       omega arith,
-      reads_of c.args.r.kind f.known none c.rule.result e (length c.args.width.now) c.index-3.result c.index-5.result
+      reads_of c.args.r.kind f.known none c.rule.result e (length c.args.width.now) c.args.r.b c.args.r.c
           (λ u. let z = f.second_in u in omega arith) (λ u. let z = f.sixth_in u in omega arith),
     )
 
@@ -46,11 +42,11 @@ pub returns : goal.returns
 returns c =
     let a = c.args in
     let ws = a.width.now in
-    let et = c.width_at-wt.ensures.1 ∙ ap (width_at ws) c.index.ensures in
-    let ea = c.width_at-wa.ensures.1 ∙ ap (width_at ws) c.index-2.ensures in
+    let et = c.width_at-wt.ensures.1 in
+    let ea = c.width_at-wa.ensures.1 in
     fits-of a.r.kind (named-facts (length c.args.width.now) c.args.r c.requires).known (subst (λ (b : Bool). T (not b)) (sym (sym c.has_cells.ensures ∙ c.if-has_cells.false)) tt) c.rule.result c.rule.ensures ws a.r.t a.r.a a.r.b a.r.p a.r.c c.rule_fits.result
     (c.rule_fits.ensures
-    ∙ (λ ι. asks (rule_numbered c.rule.result) (et ι) (ea ι ∷ width_at ws (c.index-3.ensures ι) ∷ width_at ws (c.index-5.ensures ι) ∷ []) (c.index-4.ensures ι)))
+    ∙ (λ ι. asks (rule_model c.rule.result) (et ι) (ea ι ∷ width_at ws a.r.b ∷ width_at ws a.r.c ∷ []) a.r.p))
 
 pub has_cells-requires : goal.has_cells-requires
 has_cells-requires c = (named-facts (length c.args.width.now) c.args.r c.requires).known

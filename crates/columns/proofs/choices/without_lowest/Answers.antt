@@ -1,5 +1,5 @@
 -- `without_lowest` meets its contract. The loop's invariant: as many ones are left as were not cleared. Assumes nothing.
-use Rattle.std.proofs.Common.{arith}
+use Rattle.std.proofs.Common.{◌+◌, ◌-◌, ◌%◌, ◌^◌, arith}
 use Rattle.columns.proofs.Ones.{ones-wrapped}
 use Rattle.columns.proofs.choices.without_lowest.Goals as goal
 
@@ -9,8 +9,7 @@ loop-cleared-init c = (omega arith, omega arith)
 pub loop-cleared-preserved : goal.loop-cleared-preserved
 loop-cleared-preserved c =
     let l = c.loop-cleared in
-    let d = c.wrapping_sub_u64-rest in
-    let e = ones-wrapped l.rest d.result d.type_inv d.ensures.value in
+    let e = ones-wrapped l.rest ((l.rest + (2 ^ 64 - 1)) % 2 ^ 64) (omega arith) (omega arith) in
     let i = l.invariant.1 in
     (omega arith, omega arith)
 

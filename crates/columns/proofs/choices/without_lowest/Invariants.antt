@@ -6,6 +6,3 @@ use Rattle.columns.proofs.choices.without_lowest.Given as goal
 
 abbrev pub invariant-loop-cleared : goal.invariant-loop-cleared
 invariant-loop-cleared l = (l.cleared ≤ exhaustive_limit) × (ones_in 64 l.rest ≡ ones_in 64 l.x - l.cleared)
-
-abbrev pub decreases-loop-cleared : goal.decreases-loop-cleared
-decreases-loop-cleared l = exhaustive_limit - l.cleared

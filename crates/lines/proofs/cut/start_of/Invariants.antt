@@ -5,8 +5,5 @@ use lib.ListN.{length, drop}
 use Rattle.grammar.specs.Cut.{past}
 use Rattle.lines.proofs.cut.start_of.Given as goal
 
-abbrev pub invariant-loop-left : goal.invariant-loop-left
-invariant-loop-left l = (l.at ≤ length l.text) × (l.len ≡ length l.text) × (l.at + past l.sep l.left (drop l.at l.text) ≡ past l.sep (l.n - 1) l.text)
-
-abbrev pub decreases-loop-left : goal.decreases-loop-left
-decreases-loop-left l = l.left
+abbrev pub invariant-loop : goal.invariant-loop
+invariant-loop l = (l.at ≤ length l.text) × (l.len ≡ length l.text) × (l.at + past l.sep (l.n - l.counter) (drop l.at l.text) ≡ past l.sep (l.n - 1) l.text)

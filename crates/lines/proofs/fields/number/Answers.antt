@@ -18,11 +18,11 @@ loop-i-init c = (refl, omega arith, begin c.args.f.now)
 
 pub returns-then-b-lt48 : goal.returns-then-b-lt48
 returns-then-b-lt48 c =
-    too-low c.args.f.now c.loop-i.i c.wide-b.result (omega arith) c.wide-b.ensures c.if-b-lt48.true
+    too-low c.args.f.now c.loop-i.i _ (omega arith) refl c.if-b-lt48.true
 
 pub returns-then-b-gt57 : goal.returns-then-b-gt57
 returns-then-b-gt57 c =
-    too-high c.args.f.now c.loop-i.i c.wide-b.result (omega arith) c.wide-b.ensures c.if-b-gt57.true
+    too-high c.args.f.now c.loop-i.i _ (omega arith) refl c.if-b-gt57.true
 
 pub overflow_mul-n : goal.overflow_mul-n
 overflow_mul-n c = omega (arith, c.loop-i.invariant.2.small)
@@ -33,18 +33,13 @@ overflow_add-n c = omega (arith, c.loop-i.invariant.2.small)
 pub returns-then-n-gt-NUMBER_LIMIT : goal.returns-then-n-gt-NUMBER_LIMIT
 returns-then-n-gt-NUMBER_LIMIT c =
     let i = c.loop-i in
-    let b = c.wide-b in
-    too-great c.args.f.now i.i i.n b.result (omega arith) b.ensures (omega arith) (omega arith) i.invariant.2 c.if-n-gt-NUMBER_LIMIT.true
+    too-great c.args.f.now i.i i.n _ (omega arith) refl (omega arith) (omega arith) i.invariant.2 c.if-n-gt-NUMBER_LIMIT.true
 
 pub loop-i-preserved : goal.loop-i-preserved
 loop-i-preserved c =
     let i = c.loop-i in
-    let b = c.wide-b in
-    (refl, omega arith, more c.args.f.now i.i i.n b.result (omega arith) b.ensures (omega arith) (omega arith) i.invariant.2 c.if-n-gt-NUMBER_LIMIT.false)
+    (refl, omega arith, more c.args.f.now i.i i.n _ (omega arith) refl (omega arith) (omega arith) i.invariant.2 c.if-n-gt-NUMBER_LIMIT.false)
 
 pub returns : goal.returns
 returns c =
     done c.args.f.now c.loop-i.i c.loop-i.n (omega arith) (omega arith) c.if-len-eq0.false c.if-f-eq48.false c.loop-i.invariant.2
-
-pub wide-b-requires : goal.wide-b-requires
-wide-b-requires c = tt

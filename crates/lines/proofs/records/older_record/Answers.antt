@@ -1,5 +1,7 @@
 -- `lines::records::older_record`: the name and the four numbers, and their places. Assumes nothing.
+use mathlib.Core.Path.{ap, ◌∙◌}
 use native.Mathlib.Omega.{arith}
+use Rattle.lines.specs.Model.{record_model}
 use Rattle.lines.proofs.KindNames.{all-few}
 use Rattle.lines.proofs.ReadRecords.{older-none, older-known, older-good}
 use Rattle.lines.proofs.records.older_record.Goals as goal
@@ -10,14 +12,14 @@ four_numbers-requires c = omega (arith, all-few)
 pub six_words-requires : goal.six_words-requires
 six_words-requires c =
     let a = c.args in
-    older-known a.name.now a.t.now a.a.now a.b.now a.p.now c.four_numbers.result c.four_numbers.ensures _ c.in-Good.is
+    older-known a.name.now a.t.now a.a.now a.b.now a.p.now c.four_numbers.result c.four_numbers.ensures _ c.in_ok-r.was
 
-pub returns-in-Bad : goal.returns-in-Bad
-returns-in-Bad c =
+pub returns-in_err-r : goal.returns-in_err-r
+returns-in_err-r c =
     let a = c.args in
-    older-none a.name.now a.t.now a.a.now a.b.now a.p.now c.four_numbers.result c.four_numbers.ensures c.in-Bad.is
+    ap record_model c.from_residual.ensures ∙ older-none a.name.now a.t.now a.a.now a.b.now a.p.now c.four_numbers.result c.four_numbers.ensures c.in_err-r.was
 
-pub returns-in-Good : goal.returns-in-Good
-returns-in-Good c =
+pub returns : goal.returns
+returns c =
     let a = c.args in
-    older-good a.name.now a.t.now a.a.now a.b.now a.p.now c.four_numbers.result c.four_numbers.ensures _ c.in-Good.is _ c.six_words.ensures
+    older-good a.name.now a.t.now a.a.now a.b.now a.p.now c.four_numbers.result c.four_numbers.ensures _ c.in_ok-r.was _ c.six_words.ensures

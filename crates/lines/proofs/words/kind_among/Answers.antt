@@ -25,6 +25,3 @@ returns c =
 
 pub overflow_cast-k : goal.overflow_cast-k
 overflow_cast-k c = omega (arith, kinds-few)
-
-pub overflow_add-k : goal.overflow_add-k
-overflow_add-k c = omega (arith, kinds-few)

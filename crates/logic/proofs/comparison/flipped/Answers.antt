@@ -7,4 +7,4 @@ use Rattle.logic.proofs.comparison.flipped.Goals as goal
 pub returns : goal.returns
 returns c =
     let a = c.args in
-    ap (λ (x : ℕ). bit_xor a.v (bit_and x (2 ^ 32 - 1 - a.m))) (ap (λ (x : ℕ). x % 2 ^ 32) (one-mul (2 ^ (a.w - 1))) ∙ mod-eq_of_lt (pow-lt {j = 32} (omega arith)))
+    ap (λ (x : ℕ). bit_xor a.x.value (bit_and x (2 ^ 32 - 1 - a.x.mask))) (ap (λ (x : ℕ). x % 2 ^ 32) (one-mul (2 ^ (a.w - 1))) ∙ mod-eq_of_lt (pow-lt {j = 32} (omega arith)))

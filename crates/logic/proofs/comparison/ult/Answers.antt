@@ -5,4 +5,4 @@ use Rattle.logic.proofs.comparison.ult.Goals as goal
 pub returns : goal.returns
 returns c =
     let a = c.args in
-    ult-result a.w a.ma a.va a.mb a.vb _ _ c.requires.1 c.tested.ensures
+    ult-result a.w a.a.mask a.a.value a.b.mask a.b.value _ _ c.requires.1 c.tested.ensures

@@ -8,4 +8,4 @@ use Rattle.logic.proofs.logical.not.Goals as goal
 pub returns : goal.returns
 returns c =
     let a = c.args in
-    ap (λ (x : ℕ). row a.w a.ma (bit_xor x (bit_or a.va a.ma))) c.width_mask.ensures ∙ not-result a.w a.ma a.va c.requires.1
+    ap (λ (x : ℕ). row a.w a.a.mask (bit_xor x (bit_or a.a.value a.a.mask))) c.width_mask.ensures ∙ not-result a.w a.a.mask a.a.value c.requires.1

@@ -3,4 +3,4 @@ use Rattle.logic.proofs.BitwiseResults.{xor-result}
 use Rattle.logic.proofs.logical.xor.Goals as goal
 
 pub returns : goal.returns
-returns c = let a = c.args in xor-result a.w a.ma a.va a.mb a.vb 32 c.requires.0 c.requires.1
+returns c = let a = c.args in xor-result a.w a.a.mask a.a.value a.b.mask a.b.value 32 c.requires.0 c.requires.1

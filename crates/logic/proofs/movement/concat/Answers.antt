@@ -20,5 +20,5 @@ returns c =
     let R = c.requires.1 in
     let e = concat-fits R in
     moving-result 10 refl R (concat-moved a.wt a.wa a.wb e)
-    (concat-word a.wt a.wa a.wb a.ma a.mb 32 R.formed.0.mask_below R.formed.1.0.mask_below (omega arith))
-    (concat-word a.wt a.wa a.wb a.va a.vb 32 R.formed.0.value_below R.formed.1.0.value_below (omega arith))
+    (concat-word a.wt a.wa a.wb a.a.mask a.b.mask 32 R.formed.0.mask_below R.formed.1.0.mask_below (omega arith))
+    (concat-word a.wt a.wa a.wb a.a.value a.b.value 32 R.formed.0.value_below R.formed.1.0.value_below (omega arith))

@@ -3,6 +3,4 @@ use Rattle.std.proofs.Common.{lt_of_lt_of_le, pow_mono}
 use Rattle.oracle.proofs.choices.of_rest.Goals as goal
 
 pub of_condition-requires : goal.of_condition-requires
-of_condition-requires c =
-    let p = c.requires in
-    record { sized = p.sized; x_bound = (p.x_bound, lt_of_lt_of_le p.x_bound (pow_mono p.sized.first_most)) }
+of_condition-requires c = (c.requires, lt_of_lt_of_le c.requires (pow_mono c.args.s.sized.first_most))

@@ -1,13 +1,12 @@
 -- `orders::inputs::check_both_rows` meets its contract. The invariant: the verdict on all rows is that on the rows from i on. Assumes nothing.
 use mathlib.Core.Path.{sym, ap, ◌∙◌}
 use mathlib.Core.List.{List}
-use Prim.Native.Nat.{ℕ, ◌-◌}
+use Prim.Native.Nat.{ℕ}
 use native.Mathlib.Omega.{arith}
-use lib.ListN.{length, get_or}
+use lib.ListN.{length}
 use Rattle.checks.specs.Check.{Check, placed}
-use Rattle.checks.specs.Checks.{two_vector_faults}
-use Rattle.checks.specs.Model.{verdict_model, judged}
-use Rattle.checks.proofs.VerdictParts.{rest-start, rest_end, turn-stops, turn-goes-on}
+use Rattle.checks.specs.Model.{verdict_model}
+use Rattle.checks.proofs.VerdictParts.{exit, rest-start, rest_end, turn-stops, turn-goes-on}
 use Rattle.steps.specs.States.{held}
 use Rattle.orders.specs.Order.{compare_row_faults}
 use Rattle.orders.proofs.inputs.check_both_rows.Goals as goal
@@ -19,14 +18,12 @@ pub loop-i-init : goal.loop-i-init
 loop-i-init c =
     (c.requires.0.masks_length, c.requires.0.values_length, c.requires.1.masks_length, c.requires.1.values_length, omega arith, rest-start (faults c.args.width.now c.args.ma.now c.args.va.now c.args.mb.now c.args.vb.now) (length c.args.width.now))
 
-pub returns-in-Refused : goal.returns-in-Refused
-returns-in-Refused c =
+pub returns-in_err-check_two_vectors : goal.returns-in_err-check_two_vectors
+returns-in_err-check_two_vectors c =
     let a = c.args in
     let i = c.loop-i.i in
-    ap verdict_model c.in-Refused.is
-    ∙ sym (c.loop-i.invariant.5 ∙ turn-stops (faults c.args.width.now c.args.ma.now c.args.va.now c.args.mb.now c.args.vb.now) (length c.args.width.now) c.loop-i.i c.loop-i-test.true c.check_two_vectors-found.result (c.check_two_vectors-found.ensures
-    ∙ ap (λ (w : ℕ). judged (placed i (two_vector_faults w (get_or a.ma.now i 0) (get_or a.va.now i 0) (get_or a.mb.now i 0) (get_or a.vb.now i 0))))
-    c.wide.ensures) _ c.in-Refused.is)
+    ap verdict_model (exit _ _ c.from_residual.ensures.1)
+    ∙ sym (c.loop-i.invariant.5 ∙ turn-stops (faults c.args.width.now c.args.ma.now c.args.va.now c.args.mb.now c.args.vb.now) (length c.args.width.now) c.loop-i.i c.loop-i-test.true c.check_two_vectors.result c.check_two_vectors.ensures _ c.in_err-check_two_vectors.was)
 
 pub loop-i-preserved : goal.loop-i-preserved
 loop-i-preserved c =
@@ -38,9 +35,7 @@ loop-i-preserved c =
       v.2,
       v.3,
       omega arith,
-      v.5 ∙ turn-goes-on (faults c.args.width.now c.args.ma.now c.args.va.now c.args.mb.now c.args.vb.now) (length c.args.width.now) c.loop-i.i c.loop-i-test.true c.check_two_vectors-found.result (c.check_two_vectors-found.ensures
-          ∙ ap (λ (w : ℕ). judged (placed i (two_vector_faults w (get_or a.ma.now i 0) (get_or a.va.now i 0) (get_or a.mb.now i 0) (get_or a.vb.now i 0))))
-          c.wide.ensures) c.in-Passed.is,
+      v.5 ∙ turn-goes-on (faults c.args.width.now c.args.ma.now c.args.va.now c.args.mb.now c.args.vb.now) (length c.args.width.now) c.loop-i.i c.loop-i-test.true c.check_two_vectors.result c.check_two_vectors.ensures c.in_ok-check_two_vectors.was,
     )
 
 pub returns : goal.returns

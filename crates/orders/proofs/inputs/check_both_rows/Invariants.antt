@@ -1,7 +1,7 @@
 -- `orders::inputs::check_both_rows` meets its contract. The invariant: the verdict on all rows is that on the rows from i on. Assumes nothing.
 use mathlib.Core.Path.{◌≡◌}
 use mathlib.Core.List.{List}
-use Prim.Native.Nat.{ℕ, ◌-◌, ◌≤◌}
+use Prim.Native.Nat.{ℕ, ◌≤◌}
 use lib.ListN.{length}
 use Rattle.checks.specs.Check.{Check, placed}
 use Rattle.checks.specs.Model.{judged}
@@ -16,6 +16,3 @@ faults width ma va mb vb i = placed i (compare_row_faults width (held ma va) (he
 abbrev pub invariant-loop-i : goal.invariant-loop-i
 invariant-loop-i l = (length l.ma ≡ length l.width) × (length l.va ≡ length l.width) × (length l.mb ≡ length l.width) × (length l.vb ≡ length l.width) × (l.i ≤ length l.width)
     × (judged (compare_row_checks l.width (held l.ma l.va) (held l.mb l.vb)) ≡ rest (faults l.width l.ma l.va l.mb l.vb) (length l.width) l.i)
-
-abbrev pub decreases-loop-i : goal.decreases-loop-i
-decreases-loop-i l = length l.width - l.i

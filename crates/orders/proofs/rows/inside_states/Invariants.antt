@@ -2,7 +2,7 @@
 use mathlib.Core.Path.{◌≡◌}
 use mathlib.Core.Bool.{Bool, true}
 use mathlib.Core.List.{List}
-use Prim.Native.Nat.{ℕ, ◌-◌, ◌≤◌, ◌<◌}
+use Prim.Native.Nat.{ℕ, ◌≤◌, ◌<◌}
 use lib.ListN.{length}
 use Rattle.checks.specs.Table.{row_at}
 use Rattle.steps.specs.States.{held}
@@ -15,6 +15,3 @@ test width ma va mb vb i = inside_row (row_at width (held ma va) i) (row_at widt
 abbrev pub invariant-loop-i : goal.invariant-loop-i
 invariant-loop-i l = (length l.ma ≡ length l.width) × (length l.va ≡ length l.width) × (length l.mb ≡ length l.width) × (length l.vb ≡ length l.width) × (l.i ≤ length l.width)
     × ((j : ℕ) → j < l.i → test l.width l.ma l.va l.mb l.vb j ≡ true)
-
-abbrev pub decreases-loop-i : goal.decreases-loop-i
-decreases-loop-i l = length l.width - l.i

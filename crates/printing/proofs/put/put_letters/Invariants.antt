@@ -6,6 +6,3 @@ use Rattle.printing.proofs.put.put_letters.Given as goal
 
 abbrev pub invariant-loop-k : goal.invariant-loop-k
 invariant-loop-k l = (l.k ≤ l.w) × Writing l.initial.out l.at (letters_of l.w l.m l.v) l.out l.to (letters_of l.k l.m l.v)
-
-abbrev pub decreases-loop-k : goal.decreases-loop-k
-decreases-loop-k l = l.k

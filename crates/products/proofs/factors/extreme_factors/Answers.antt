@@ -1,7 +1,7 @@
 -- `extreme_factors` meets its contract. Assumes nothing.
 use mathlib.Core.Path.{ap, ap₂, ◌∙◌}
 use lib.Bits.{bit_and, bit_or}
-use Rattle.bits.specs.declared.FourWords.{FourWords}
+use Rattle.std.proofs.Common.{List, ℕ, get_or}
 use Rattle.products.specs.Factors.{and_not, least_factor, greatest_factor, extremes_of}
 use Rattle.products.proofs.factors.extreme_factors.Goals as goal
 
@@ -10,10 +10,10 @@ unfolding extremes_of least_factor greatest_factor
 returns c =
     let a = c.args in
     let e = c.requires.1 in
-    let va = c.partners-a_value.ensures a.va (ap (λ (r : FourWords). r.b) e) in
-    let vb = c.partners-b_value.ensures a.vb (ap (λ (r : FourWords). r.d) e) in
-    let ma = c.partners-2.ensures a.ma (ap (λ (r : FourWords). r.a) e) in
-    let mb = c.partners.ensures a.mb (ap (λ (r : FourWords). r.c) e) in
+    let va = c.partners-a_value.ensures a.va (ap (λ (r : List ℕ). get_or r 1 0) e) in
+    let vb = c.partners-b_value.ensures a.vb (ap (λ (r : List ℕ). get_or r 3 0) e) in
+    let ma = c.partners-2.ensures a.ma (ap (λ (r : List ℕ). get_or r 0 0) e) in
+    let mb = c.partners.ensures a.mb (ap (λ (r : List ℕ). get_or r 2 0) e) in
     let sa = c.and_not-a_single.ensures ∙ ap (and_not a.ma) mb in
     let sb = c.and_not-b_single.ensures ∙ ap (and_not a.mb) ma in
     let la = ap (bit_or a.va) (ap₂ bit_and sa vb) in

@@ -4,6 +4,3 @@ use Rattle.pruning.proofs.passes.keep_back.Given as goal
 
 abbrev pub invariant-loop-i : goal.invariant-loop-i
 invariant-loop-i l = Back l.initial.words l.initial.need l.words l.need l.i l.first
-
-abbrev pub decreases-loop-i : goal.decreases-loop-i
-decreases-loop-i l = l.i

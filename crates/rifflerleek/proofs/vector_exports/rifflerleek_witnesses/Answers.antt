@@ -3,8 +3,10 @@ use mathlib.Core.Path.{refl, sym, ap, subst, ◌∙◌}
 use native.Mathlib.Omega.{arith}
 use Rattle.witness_search.specs.declared.Pair.{Pair}
 use Rattle.checks.specs.Check.{Answer}
-use Rattle.vector_calls.specs.Model.{witness_model, refusal_in}
-use Rattle.vector_calls.specs.declared.WitnessAnswer.{WitnessAnswer}
+use Rattle.checks.specs.Model.{answer_model}
+use Rattle.vector_calls.specs.Model.{refusal_in}
+use Rattle.std.specs.Prelude.{Result}
+use Rattle.checks.specs.declared.refusals.Refusal.{Refusal}
 use Rattle.rifflerleek.specs.declared.vector_exports.FourNumbers.{FourNumbers}
 use Rattle.rifflerleek.specs.Host.{FourAnswers}
 use Rattle.rifflerleek.proofs.Numbered.{witness-refused}
@@ -14,18 +16,18 @@ use Rattle.rifflerleek.proofs.vector_exports.rifflerleek_witnesses.Goals as goal
 abbrev hosted : Pair → Pair → FourNumbers
 hosted zero one = record { refusal = 0; place = 0; first = zero.a; second = zero.b; third = one.a; fourth = one.b }
 
-pub returns-in-Pairs : goal.returns-in-Pairs
-returns-in-Pairs c =
-    let j = ap (λ (x : WitnessAnswer). refusal_in (witness_model x)) (sym c.in-Pairs.is) ∙ c.witnesses.ensures.refusals in
+pub returns-in-Ok : goal.returns-in-Ok
+returns-in-Ok c =
+    let j = ap (λ (x : Result (Pair × Pair) Refusal). refusal_in (answer_model x)) (sym c.in-Ok.is) ∙ c.witnesses.ensures.refusals in
     record {
-      refusals = subst (λ (x : Answer (Unit {0})). FourAnswers x (hosted c.in-Pairs.zero c.in-Pairs.one)) j (refl, refl);
-      pairs = λ e. c.witnesses.ensures.pairs _ _ (ap witness_model c.in-Pairs.is);
+      refusals = subst (λ (x : Answer (Unit {0})). FourAnswers x (hosted c.in-Ok.zero c.in-Ok.one)) j (refl, refl);
+      pairs = λ e. c.witnesses.ensures.pairs _ _ (ap answer_model c.in-Ok.is);
     }
 
-pub returns-in-Refused : goal.returns-in-Refused
-returns-in-Refused c =
+pub returns-in-Err : goal.returns-in-Err
+returns-in-Err c =
     let a = c.args in
-    let j = ap (λ (x : WitnessAnswer). refusal_in (witness_model x)) (sym c.in-Refused.is) ∙ c.witnesses.ensures.refusals in
+    let j = ap (λ (x : Result (Pair × Pair) Refusal). refusal_in (answer_model x)) (sym c.in-Err.is) ∙ c.witnesses.ensures.refusals in
     record {
       refusals = subst (λ (x : Answer (Unit {0})). FourAnswers x c.no_numbers.result) j c.no_numbers.ensures;
       pairs = λ e.

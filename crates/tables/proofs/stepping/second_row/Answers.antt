@@ -1,5 +1,4 @@
 -- `tables::stepping::second_row` meets its contract: the code that the kind has. Assumes nothing.
-use borrow.Author.Rules.{rules}
 use Rattle.operations.specs.Kinds.{kind_of}
 use Rattle.tables.proofs.stepping.second_row.Goals as goal
 

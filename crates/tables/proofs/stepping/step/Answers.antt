@@ -1,18 +1,13 @@
 -- `tables::stepping::step` meets its contract: a record without cells, a load, or a store. Assumes nothing.
-use mathlib.Core.Path.{◌≡◌, sym, ap, subst, ◌∙◌}
-use mathlib.Core.Bool.{Bool, not}
-use mathlib.Core.List.{List, [], ◌∷◌}
+use mathlib.Core.Path.{refl, ◌≡◌, sym, ap, subst, ◌∙◌}
+use mathlib.Core.List.{List}
 use Prim.Native.Nat.{ℕ}
-use borrow.Author.Rules.{rules}
-use borrow.Author.Tests.{not-true, not-false}
 use lib.Dec.{T}
-use Rattle.operations.specs.Kind.{is_base}
-use Rattle.operations.specs.Kinds.{kind_of}
 use Rattle.operations.specs.Record.{Effect}
 use Rattle.operations.proofs.Sound.{load-or-store}
 use Rattle.steps.specs.Step as Step
 use Rattle.steps.specs.States.{held}
-use Rattle.memories.specs.Effects.{load_effect, store_effects, SpanFits}
+use Rattle.memories.specs.Effects.{SpanFits}
 use Rattle.memories.proofs.Described.{load-described, store-described, load-span, store-span}
 use Rattle.tables.proofs.stepping.step.Goals as goal
 
@@ -24,7 +19,7 @@ pub load_to-requires : goal.load_to-requires
 load_to-requires c =
     let widths = c.args.width.now in (
       c.requires.fits,
-      as-named widths c.index-a.ensures c.index.ensures c.index-base.ensures c.index-n.ensures (load-span widths c.args.r c.if-r-eq-LOAD.true c.requires.passed),
+      as-named widths refl refl refl refl (load-span widths c.args.r c.if-r-eq-LOAD.true c.requires.passed),
     )
 
 pub returns-then-r-eq-LOAD : goal.returns-then-r-eq-LOAD
@@ -32,14 +27,13 @@ returns-then-r-eq-LOAD c =
     let widths = c.args.width.now in
     let rows = held c.args.mask.now c.args.value.now in
     c.load_to.ensures
-    ∙ (λ ι. Step.step widths (load_effect (c.index.ensures ι) (c.index-a.ensures ι) (c.index-base.ensures ι) (c.index-n.ensures ι) ∷ []) rows)
     ∙ ap (λ (es : List Effect). Step.step widths es rows) (sym (load-described widths c.args.r c.if-r-eq-LOAD.true))
 
 pub store-requires : goal.store-requires
 store-requires c =
     let widths = c.args.width.now in (
       c.requires.fits,
-      as-named widths c.index-a.ensures c.index-2.ensures c.index-base.ensures c.index-n.ensures (store-span widths c.args.r (load-or-store c.args.r.kind c.requires.passed.kind_known (subst T (sym (sym c.has_cells.ensures ∙ c.if-not-has_cells.false)) tt) c.if-r-eq-LOAD.false) c.requires.passed),
+      as-named widths refl refl refl refl (store-span widths c.args.r (load-or-store c.args.r.kind c.requires.passed.kind_known (subst T (sym (sym c.has_cells.ensures ∙ c.if-not-has_cells.false)) tt) c.if-r-eq-LOAD.false) c.requires.passed),
     )
 
 pub returns : goal.returns
@@ -47,5 +41,4 @@ returns c =
     let widths = c.args.width.now in
     let rows = held c.args.mask.now c.args.value.now in
     c.store.ensures
-    ∙ (λ ι. Step.step widths (store_effects (c.index-a.ensures ι) (c.index-2.ensures ι) (c.index-base.ensures ι) (c.index-n.ensures ι)) rows)
     ∙ ap (λ (es : List Effect). Step.step widths es rows) (sym (store-described widths c.args.r (load-or-store c.args.r.kind c.requires.passed.kind_known (subst T (sym (sym c.has_cells.ensures ∙ c.if-not-has_cells.false)) tt) c.if-r-eq-LOAD.false)))

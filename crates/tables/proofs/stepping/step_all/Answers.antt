@@ -1,12 +1,10 @@
 -- `tables::stepping::step_all` meets its contract. The invariant: the rows are those after the first i records. Assumes nothing.
-use borrow.Author.Rules.{rules}
 use native.Mathlib.Omega.{arith}
 use mathlib.Core.Path.{◌≡◌, refl, sym, ap, ◌∙◌}
 use mathlib.Core.List.{[]}
-use Prim.Native.Nat.{ℕ, ◌+◌, ◌-◌, ◌/◌, ◌≤◌}
+use Prim.Native.Nat.{ℕ, ◌+◌, ◌/◌}
 use lib.ListN.{length}
 use Rattle.operations.specs.Limits.{record_words}
-use Rattle.checks.specs.Table.{State}
 use Rattle.checks.specs.Model.{lent}
 use Rattle.steps.specs.Step.{after}
 use Rattle.tables.specs.Run.{program_of}

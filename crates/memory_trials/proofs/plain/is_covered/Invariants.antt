@@ -1,9 +1,0 @@
--- `memory_trials::plain::is_covered` is safe and ends. The rows below i are compared, and i is at most 8. Assumes nothing.
-use Rattle.std.proofs.Common.{◌-◌, ◌≤◌}
-use Rattle.memory_trials.proofs.plain.is_covered.Given as goal
-
-abbrev pub invariant-loop-i : goal.invariant-loop-i
-invariant-loop-i l = l.i ≤ 8
-
-abbrev pub decreases-loop-i : goal.decreases-loop-i
-decreases-loop-i l = 8 - l.i
