@@ -53,7 +53,7 @@ extern "C" {
 
 /* Rises by one with every change that a host can see: of a name, a number, a call, an answer or a lent byte. The header that had
  * no version is version 1. CHANGELOG.md names the changes. */
-#define RIFFLERLEEK_VERSION 16
+#define RIFFLERLEEK_VERSION 17
 
 /* Limits. */
 #define RIFFLERLEEK_ROW_LIMIT 256      /* rows in a table */
@@ -82,10 +82,10 @@ extern "C" {
  *   call                     depth  stack
  *   rifflerleek_run              5    588
  *   rifflerleek_count            1     57
- *   rifflerleek_size             3    400
- *   rifflerleek_write            3    512
- *   rifflerleek_read             4    472
- *   rifflerleek_field            1     32
+ *   rifflerleek_size             2    288
+ *   rifflerleek_write            2    352
+ *   rifflerleek_read             4    456
+ *   rifflerleek_field            1     24
  *   rifflerleek_product_bit      2    156
  *   rifflerleek_witnesses        3    284
  *   rifflerleek_range            1     64

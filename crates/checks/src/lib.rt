@@ -5,7 +5,8 @@ ghost use Rattle.std.specs.Prelude.{◌≡◌, List, ◌++◌};
 ghost use Rattle.checks.specs.Check.{refused, Check};
 ghost use Rattle.checks.specs.Model.{reason_number, verdict_model, judged};
 
-use refusals::{Reason, Refusal};
+use refusals::Reason;
+pub use refusals::Refusal;
 
 pub mod cells; // cells.rt: checks 7 to 10 of a load and a store
 pub mod described; // described.rt: what each kind uses and asks of the widths

@@ -1,6 +1,7 @@
 // Every two states of two rows through `compare_states`, with rows that are well formed or not, compared by the numbers that they cover.
 // The two rows are the first of four, of which the others are 0.
-ghost use Rattle.std.specs.Prelude.{◌≤◌};
+ghost use Rattle.std.specs.Prelude.{◌≡◌, ◌≤◌, Some};
+ghost use Rattle.checks.specs.Model.{reason_number};
 
 use crate::reached::cover;
 use checks::refusals::{Reason, Refusal};
@@ -20,7 +21,9 @@ fn refused(reason: Reason, place: usize) -> Result<Order, Refusal> {
 }
 
 // What is wrong with a row of two states, if anything: its width; or its bits, of which some are set in both mask and value, and some in any of them.
-fn fault(w: u64, shared: u64, set: u64) -> Option<Reason> {
+fn fault(w: u64, shared: u64, set: u64) -> Option<Reason>
+    ensures { (r : Reason) → result ≡ Some r → reason_number r ≤ 5 }
+{
     if w == 0 || w > 32 {
         return Some(Reason::Width);
     }

@@ -33,6 +33,7 @@ fn each_vector<F: Fn(Row) -> Tally>(used: bool, w: u64, tried: F) -> Tally
 // Shape n of a kind: four widths of each operand, 32 of the target, 32 parameters.
 fn shape(kind: u64, n: u64) -> Shape
     requires { n < 16384 }
+    ensures { (result.wa ≤ 4) × (result.wb ≤ 4) }
 {
     Shape {
         kind,

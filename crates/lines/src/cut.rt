@@ -27,7 +27,8 @@ pub fn start_of(text: &[u8], n: usize, sep: u8) -> usize
     let mut at: usize = 0;
     for _ in 1..n {
         let e = end_of(text, at, sep);
-        if e == len {
+        // `<=`, and not `==`, by which the loop of `end_of` would be compiled to two instructions more a byte.
+        if len <= e {
             return e;
         }
         at = e + 1;

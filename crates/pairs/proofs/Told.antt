@@ -1,6 +1,6 @@
 -- What one test of a pair says of its verdict: of lists of unequal length, of a state row named before, and of a locked one. Assumes nothing.
 use mathlib.Core.Path.{◌≡◌, refl, sym, ap, ◌∙◌}
-use mathlib.Core.Bool.{Bool, false, not, ◌||◌, or_comm}
+use mathlib.Core.Bool.{Bool, true, false, not, ◌||◌, or_comm}
 use mathlib.Core.List.{List}
 use mathlib.Core.Logic.{◌≢◌}
 use Prim.Native.Nat.{ℕ, zero, suc, ◌≤◌, ◌<◌}
@@ -13,6 +13,7 @@ use Rattle.std.specs.Prelude.{nat_eq}
 use Rattle.std.specs.List.{list_any}
 use Rattle.std.proofs.lemmas.List.Folds.{list_any_more}
 use Rattle.bits.specs.Below.{some_below}
+use Rattle.bits.proofs.Below.{some_below-true}
 use Rattle.checks.specs.declared.table.Table.{Table as TableLent}
 use Rattle.checks.specs.Check.{refused, placed}
 use Rattle.checks.specs.Table.{Table}
@@ -42,8 +43,11 @@ some-of-first p xs (suc n) h =
     ∙ or_comm (list_any p (take n xs)) (p (get_or xs n 0))
     ∙ ap (λ (b : Bool). p (get_or xs n 0) || b) (some-of-first p xs n (omega (arith, h)))
 
-pub named_twice : (ss : List ℕ) (i : ℕ) (r : Bool) → i < length ss → r ≡ list_any (λ y. nat_eq y (get_or ss i 0)) (take i ss) → r ≡ state_twice ss i
-named_twice ss i r h e = e ∙ some-of-first (λ y. nat_eq y (get_or ss i 0)) ss i (omega (arith, h))
+pub named_twice : (ss : List ℕ) (i j : ℕ) → j < i → get_or ss j 0 ≡ get_or ss i 0 → state_twice ss i ≡ true
+named_twice ss i j h e = some_below-true i (λ k. eqb (get_or ss k 0) (get_or ss i 0)) j h (eq-eqb _ _ e)
+
+pub named_among : (ss : List ℕ) (i : ℕ) (r : Bool) → i < length ss → r ≡ list_any (λ y. nat_eq y (get_or ss i 0)) (take i ss) → r ≡ state_twice ss i
+named_among ss i r h e = e ∙ some-of-first (λ y. nat_eq y (get_or ss i 0)) ss i (omega (arith, h))
 
 pub locked_refused :
     (t : TableLent) (ss ns : List ℕ) (i : ℕ) → get_or ss i 0 < length t.width.now → get_or ns i 0 < length t.width.now

@@ -42,7 +42,7 @@ fn written(words: &[u32], i: usize) -> bool
 }
 
 // Whether an earlier pair names the state row of pair i.
-#[tactic(auto, using(crate::proofs::Told::named_twice))]
+#[tactic(auto, using(crate::proofs::Told::named_among))]
 fn named_before(states: &[u32], i: usize) -> bool
     requires { i < length states.now }
     ensures { result ≡ state_twice states.now i }

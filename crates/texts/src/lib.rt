@@ -23,7 +23,8 @@ use table_lines::print::{put_records, put_rows};
 
 pub mod limits; // limits.rt: numbers that 01 sets
 
-// The number of bytes that the text of a table has.
+// The number of bytes that the text of a table has. Inlined, so that a call takes no more stack for the lent table than it has to.
+#[inline(always)]
 pub fn size(t: Table) -> Result<usize, Refusal>
     ensures { answer_model result ≡ size_of (in_table t.entry) }
 {

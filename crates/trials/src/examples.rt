@@ -1,7 +1,6 @@
 // The unstarred examples that need no text (01, "Worked examples"; 02, requests 2, 4 and 11).
 use crate::counting::{Tally, each, joined, one};
 use crate::{Rows, makes, table};
-use checks::refusals::{Reason, Refusal};
 use oracle::choices::Row;
 use oracle::numbers::{byte, word};
 use tables::run;
@@ -25,7 +24,7 @@ fn gives(
     a: Row,
     start: Row,
     end: Row,
-    due: Result<usize, Refusal>,
+    due: Result<usize, (u32, usize)>,
 ) -> Tally {
     let width = [byte(w), 1, 1, byte(w)];
     let words = [word(kind), 3, 0, 0, word(p), 0];
@@ -52,16 +51,23 @@ fn ashr_by_most() -> Tally {
     gives(7, 2, 31, row(0b10, 0b00), row(0, 0), row(0b11, 0b00), Ok(1))
 }
 
-// Width 3 and this parameter: refused for this reason, and the rows stay.
-fn refused(kind: u64, p: u64, reason: Reason) -> Tally {
+// Width 3 and this parameter: refused with this number, and the rows stay.
+fn refused(kind: u64, p: u64, number: u32) -> Tally {
     let target = row(0b100, 0b010);
-    let due = Err(Refusal { reason, place: 0 });
-    gives(kind, 3, p, row(0b010, 0b001), target, target, due)
+    gives(
+        kind,
+        3,
+        p,
+        row(0b010, 0b001),
+        target,
+        target,
+        Err((number, 0)),
+    )
 }
 
 // Parameter 32 for each shift, rotation and extract: refusal 8.
 fn parameters_over() -> Tally {
-    each(5, |n| refused(5 + n, 32, Reason::Word))
+    each(5, |n| refused(5 + n, 32, 8))
 }
 
 // xor of a row X with itself = 0, and sub likewise: both operands are one number (02, request 2).
@@ -80,33 +86,27 @@ fn with_its_condition(a: Row, b: Row, condition: u32) -> Tally {
 
 // ite with a parameter: refusal 8, before that of its widths.
 fn with_parameter() -> Tally {
-    refused(20, 2, Reason::Word)
+    refused(20, 2, 8)
 }
 
 // A load from row 0 on, of a table of four rows: refusal 7 past the table, also where n is near 2^32; 8 without a cell; 9 with cells of the widths 3, 1 and 1. A
 // store with a target word: refusal 8.
 fn memories_refused() -> Tally {
-    let span = joined(
-        refused(24, 5, Reason::Row),
-        refused(24, 4294967295, Reason::Row),
-    );
+    let span = joined(refused(24, 5, 7), refused(24, 4294967295, 7));
     joined(
-        joined(refused(24, 0, Reason::Word), refused(24, 3, Reason::Fit)),
-        joined(span, refused(25, 1, Reason::Word)),
+        joined(refused(24, 0, 8), refused(24, 3, 9)),
+        joined(span, refused(25, 1, 8)),
     )
 }
 
 // A wide product with a parameter: refusal 8. With a target as wide as one operand alone: refusal 9.
 fn wide_refused(kind: u64) -> Tally {
-    joined(
-        refused(kind, 1, Reason::Word),
-        refused(kind, 0, Reason::Fit),
-    )
+    joined(refused(kind, 1, 8), refused(kind, 0, 9))
 }
 
 // The first kind that is unknown: refusal 6.
 fn kind_over() -> Tally {
-    refused(26, 0, Reason::Kind)
+    refused(26, 0, 6)
 }
 
 // 256 rows accepted.

@@ -3,7 +3,6 @@
 
 ghost use Rattle.std.specs.Prelude.{◌≡◌, length};
 
-use checks::refusals::Refusal;
 use oracle::choices::{Row, enumerated, enumerated_twice};
 use oracle::numbers::{byte, word};
 use oracle::shapes::{Shape, uses_condition, uses_second};
@@ -46,18 +45,18 @@ fn sixth_word(kind: u64) -> u32 {
     if uses_condition(kind) { 2 } else { 0 }
 }
 
-// Whether run of one record makes the rows after of those before, and gives this answer.
+// Whether run of one record makes the rows after of those before, and gives this answer: last, or the number and the place of a refusal.
 fn makes(
     width: [u8; 4],
     words: [u32; 6],
     before: Rows,
     after: Rows,
-    due: Result<usize, Refusal>,
+    due: Result<usize, (u32, usize)>,
 ) -> bool {
     let lock = [0u8; 4];
     let mut rows = before;
     let answer = run(&width, &lock, &mut rows.mask, &mut rows.value, &words, 0, 1);
-    answer == due && rows == after
+    answer.map_err(|r| (r.reason.number(), r.place)) == due && rows == after
 }
 
 // Whether run makes this result at the target, and the other rows stay. At the start bit 0 of the target is known where the result's is unknown, and
